@@ -1,0 +1,4 @@
+pub mod Kind
+pub mod Totals
+pub mod Vehicles
+pub mod Queues
