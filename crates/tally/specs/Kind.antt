@@ -11,6 +11,8 @@ use Rattle.tally.specs.declared.fault.Fault.{Fault}
 
 -- a tally kind whose values are of the type V
 pub record Kind (V : Type 0) : Type 0 where
+  -- the byte that names the kind in frames and setups
+  pub code : ℕ
   -- the tally of nothing
   pub empty : V
   -- two tallies as one
@@ -24,6 +26,7 @@ pub record Kind (V : Type 0) : Type 0 where
   pub read : List ℕ → Result V Fault
 
 pub record Lawful {V : Type 0} (kind : Kind V) : Type 0 where
+  pub code-byte : kind .code < 256
   pub assoc : (x y z : V) → kind .join (kind .join x y) z ≡ kind .join x (kind .join y z)
   pub comm : (x y : V) → kind .join x y ≡ kind .join y x
   -- joining empty changes nothing

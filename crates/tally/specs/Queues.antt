@@ -8,7 +8,7 @@ use Prim.Native.Nat.{ℕ, zero, suc, _+_, _-_, _*_, _^_, _<_, _≤_, min}
 use native.Mathlib.Bridge.{le-prop}
 use native.Mathlib.Nat.{ℕ-set}
 use native.Mathlib.Omega.{arith}
-use lib.Dec.{eqb, leb, lit≤}
+use lib.Dec.{eqb, leb, lit≤, lit<}
 use lib.ListN.{length, getD, take, drop}
 use lib.Seq.{take-add}
 use Rattle.std.specs.Iters.{counting}
@@ -64,6 +64,7 @@ blank (n ∷ ns) = eqb n 0 && blank ns
 
 abbrev pub queues : Kind Queues
 queues = record {
+  code = 2;
   empty = by-band (λ _. 0);
   join = λ x y. by-band (λ band. count-in x band + count-in y band);
   is-empty = λ x. blank (x .counts);
@@ -139,6 +140,7 @@ both-blank x y e band h =
 
 pub queues-lawful : Lawful queues
 queues-lawful = record {
+  code-byte = lit< tt;
   assoc = λ x y z.
       same-by-band (queues .join (queues .join x y) z) _ (λ k h. omega (arith, counts-at (λ b. count-in (queues .join x y) b + count-in z b) k h, counts-at (λ b. count-in x b + count-in y b) k h, counts-at (λ b. count-in y b + count-in z b) k h));
   comm = λ x y. same-by-band (queues .join x y) _ (λ k h. omega (arith, counts-at (λ b. count-in x b + count-in y b) k h));

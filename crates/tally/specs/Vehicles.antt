@@ -17,6 +17,7 @@ counted n = record { count = min n (2 ^ 64 - 1); fits = omega arith }
 
 abbrev pub vehicles : Kind Vehicles
 vehicles = record {
+  code = 1;
   empty = counted 0;
   join = λ x y. counted (x .count + y .count);
   is-empty = λ x. eqb (x .count) 0;
@@ -30,6 +31,7 @@ same x y e = λ i. record { count = e i; fits = isProp→PathP (λ j. e j < 2 ^ 
 
 pub vehicles-lawful : Lawful vehicles
 vehicles-lawful = record {
+  code-byte = lit< tt;
   assoc = λ x y z. same _ _ (omega arith);
   comm = λ x y. same _ _ (omega arith);
   unit = λ x. same _ _ (omega (arith, x .fits));

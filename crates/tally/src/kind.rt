@@ -10,6 +10,10 @@ pub trait Tally: Copy {
 
     ghost laws: { Lawful kind };
 
+    /// The byte that names the kind in frames and setups.
+    fn code() -> u8
+        ensures { λ r. ⌜ r ≡ kind .code ⌝ };
+
     /// The tally of nothing.
     fn empty() -> Self
         ensures { λ r. ⌜ r ≡ kind .empty ⌝ };

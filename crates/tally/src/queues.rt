@@ -116,6 +116,10 @@ pub impl Tally for Queues as QueuesTally {
 
     ghost laws = { queues-lawful };
 
+    fn code() -> u8 {
+        2
+    }
+
     fn empty() -> Queues {
         Queues::of([0; 16])
     }

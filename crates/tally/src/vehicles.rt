@@ -35,6 +35,10 @@ pub impl Tally for Vehicles as VehiclesTally {
 
     ghost laws = { vehicles-lawful };
 
+    fn code() -> u8 {
+        1
+    }
+
     fn empty() -> Vehicles {
         Vehicles::of(0)
     }

@@ -1,0 +1,4 @@
+//! What every layer of the collector shares: records, limits and refusals.
+pub mod limits;
+pub mod records;
+pub mod refusal;
