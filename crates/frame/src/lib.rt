@@ -1,0 +1,1 @@
+//! Frames: the format, its reader and its writer.
