@@ -199,79 +199,88 @@ one-byte b k v rest h e f = ap₂ _∷_ e f ∙ sym (drop-more b k 0 h)
 holding : (n : ℕ) → n ≤ 1 → cond (eqb n 1) 1 0 ≡ n
 holding n h = ⊎-elim (λ (e : n ≡ 1). cond-true (eqb n 1) 1 0 (eq-eqb n 1 e) ∙ sym e) (λ (e : n ≡ 1 → ⊥). cond-false (eqb n 1) 1 0 (ne-eqb n 1 e) ∙ omega arith) (cases-eq n 1)
 
-module _ {V : Type 0} (kind : Kind V) (laws : Lawful kind) (b : List ℕ) (octets : Octets b) (fine : frame-fault kind b ≡ None) where
-  -- what each condition says
-  pub record Fine : Type 0 where
-    pub long : (17 ≤ length b) × (length b ≤ 1836)
-    pub edition : getD b 0 0 ≡ 1
-    pub our-kind : getD b 1 0 ≡ kind .code
-    pub sender : Number (getD b 2 0)
-    pub addressee : Number (getD b 4 0)
-    pub another : getD b 4 0 ≡ getD b 2 0 → ⊥
-    pub tier : getD b 3 0 ≤ tier-max
-    pub holds : getD b 5 0 ≤ 1
-    pub source-clock : four b 6 ≤ clock-max
-    pub destination-clock : four b 10 ≤ clock-max
-    pub few-slots : getD b 14 0 ≤ 15
-    pub few-tokens : getD b 15 0 ≤ 8
-    pub few-entries : entries-allowed (getD b 3 0) (getD b 16 0) ≡ true
-    pub counted : length b ≡ counted-length kind b
-    pub slot-row : row-fault (slots (getD b 2 0)) (getD b 14 0) 0 17 (drop 17 b) ≡ None
-    pub token-row : row-fault (tokens kind) (getD b 15 0) 0 (tokens-place kind b) (drop (tokens-place kind b) b) ≡ None
-    pub entry-row : row-fault (entries kind) (getD b 16 0) 0 (entries-place kind b) (drop (entries-place kind b) b) ≡ None
-    pub own-entry : (not (eqb (getD b 3 0) 0) || has-entry (getD b 2 0) (entries-shown kind b)) ≡ true
+-- what the conditions on the header say
+pub record FineHeader {V : Type 0} (kind : Kind V) (b : List ℕ) : Type 0 where
+  pub long : (17 ≤ length b) × (length b ≤ 1836)
+  pub edition : getD b 0 0 ≡ 1
+  pub our-kind : getD b 1 0 ≡ kind .code
+  pub sender : Number (getD b 2 0)
+  pub addressee : Number (getD b 4 0)
+  pub another : getD b 4 0 ≡ getD b 2 0 → ⊥
+  pub tier : getD b 3 0 ≤ tier-max
+  pub holds : getD b 5 0 ≤ 1
+  pub source-clock : four b 6 ≤ clock-max
+  pub destination-clock : four b 10 ≤ clock-max
+  pub few-slots : getD b 14 0 ≤ 15
+  pub few-tokens : getD b 15 0 ≤ 8
+  pub few-entries : entries-allowed (getD b 3 0) (getD b 16 0) ≡ true
+  pub counted : length b ≡ counted-length kind b
 
-  pub conditions : Fine
-  unfolding header-fault lists-fault
-  conditions =
-      let top = parts-none (header-fault kind b) (lists-fault kind b) fine in
-      let h1 = parts-none (opening-fault kind b) _ (top .0) in
-      let h2 = parts-none (parties-fault kind b) _ (h1 .1) in
-      let h3 = parts-none (state-fault kind b) (counts-fault kind b) (h2 .1) in
-      let o1 = unless-none (leb frame-bytes-min (length b) && leb (length b) frame-bytes-max) condition.Length 0 _ (h1 .0) in
-      let o2 = unless-none (eqb (getD b 0 0) 1) condition.Edition 0 _ (o1 .1) in
-      let o3 = unless-none (eqb (getD b 1 0) (kind .code)) condition.Kind 1 None (o2 .1) in
-      let l = and-parts (leb frame-bytes-min (length b)) (leb (length b) frame-bytes-max) (o1 .0) in
-      let p1 = unless-none (number (getD b 2 0)) condition.Parties 2 _ (h2 .0) in
-      let p2 = unless-none (number (getD b 4 0) && not (eqb (getD b 4 0) (getD b 2 0))) condition.Parties 4 _ (p1 .1) in
-      let p3 = unless-none (leb (getD b 3 0) tier-max) condition.Parties 3 None (p2 .1) in
-      let a = and-parts (number (getD b 4 0)) (not (eqb (getD b 4 0) (getD b 2 0))) (p2 .0) in
-      let s1 = unless-none (leb (getD b 5 0) 1) condition.Holding 5 _ (h3 .0) in
-      let s2 = unless-none (within-limit (four b 6)) condition.Clock 6 _ (s1 .1) in
-      let s3 = unless-none (within-limit (four b 10)) condition.Clock 10 None (s2 .1) in
-      let c1 = unless-none (leb (getD b 14 0) 15) condition.Counts 14 _ (h3 .1) in
-      let c2 = unless-none (leb (getD b 15 0) 8) condition.Counts 15 _ (c1 .1) in
-      let c3 = unless-none (entries-allowed (getD b 3 0) (getD b 16 0)) condition.Counts 16 _ (c2 .1) in
-      let c4 = unless-none (eqb (length b) (counted-length kind b)) condition.CountedLength 14 None (c3 .1) in
-      let r1 = parts-none (row-fault (slots (getD b 2 0)) (getD b 14 0) 0 17 (drop 17 b)) _ (top .1) in
-      let r2 = parts-none (row-fault (tokens kind) (getD b 15 0) 0 (tokens-place kind b) (drop (tokens-place kind b) b)) _ (r1 .1) in
-      let r3 = parts-none (row-fault (entries kind) (getD b 16 0) 0 (entries-place kind b) (drop (entries-place kind b) b)) (own-entry-fault kind b) (r2 .1) in
-      let r4 = unless-none (not (eqb (getD b 3 0) 0) || has-entry (getD b 2 0) (entries-shown kind b)) condition.OwnEntry 16 None (r3 .1) in
-      record {
-        long = (leb-true _ _ (l .0), leb-true _ _ (l .1));
-        edition = eqb-true _ _ (o2 .0);
-        our-kind = eqb-true _ _ (o3 .0);
-        sender = true-number _ (p1 .0);
-        addressee = true-number _ (a .0);
-        another = eqb-false _ _ (not-true _ (a .1));
-        tier = leb-true _ _ (p3 .0);
-        holds = leb-true _ _ (s1 .0);
-        source-clock = leb-true _ _ (s2 .0);
-        destination-clock = leb-true _ _ (s3 .0);
-        few-slots = leb-true _ _ (c1 .0);
-        few-tokens = leb-true _ _ (c2 .0);
-        few-entries = c3 .0;
-        counted = eqb-true _ _ (c4 .0);
-        slot-row = r1 .0;
-        token-row = r2 .0;
-        entry-row = r3 .0;
-        own-entry = r4 .0;
-      }
+pub fine-header : {V : Type 0} (kind : Kind V) (b : List ℕ) → header-fault kind b ≡ None → FineHeader kind b
+unfolding header-fault
+fine-header kind b fine =
+    let h1 = parts-none (opening-fault kind b) _ fine in
+    let h2 = parts-none (parties-fault b) _ (h1 .1) in
+    let h3 = parts-none (state-fault b) (counts-fault kind b) (h2 .1) in
+    let o1 = unless-none (leb frame-bytes-min (length b) && leb (length b) frame-bytes-max) condition.Length 0 _ (h1 .0) in
+    let o2 = unless-none (eqb (getD b 0 0) 1) condition.Edition 0 _ (o1 .1) in
+    let o3 = unless-none (eqb (getD b 1 0) (kind .code)) condition.Kind 1 None (o2 .1) in
+    let l = and-parts (leb frame-bytes-min (length b)) (leb (length b) frame-bytes-max) (o1 .0) in
+    let p1 = unless-none (number (getD b 2 0)) condition.Parties 2 _ (h2 .0) in
+    let p2 = unless-none (number (getD b 4 0) && not (eqb (getD b 4 0) (getD b 2 0))) condition.Parties 4 _ (p1 .1) in
+    let p3 = unless-none (leb (getD b 3 0) tier-max) condition.Parties 3 None (p2 .1) in
+    let a = and-parts (number (getD b 4 0)) (not (eqb (getD b 4 0) (getD b 2 0))) (p2 .0) in
+    let s1 = unless-none (leb (getD b 5 0) 1) condition.Holding 5 _ (h3 .0) in
+    let s2 = unless-none (within-limit (four b 6)) condition.Clock 6 _ (s1 .1) in
+    let s3 = unless-none (within-limit (four b 10)) condition.Clock 10 None (s2 .1) in
+    let c1 = unless-none (leb (getD b 14 0) 15) condition.Counts 14 _ (h3 .1) in
+    let c2 = unless-none (leb (getD b 15 0) 8) condition.Counts 15 _ (c1 .1) in
+    let c3 = unless-none (entries-allowed (getD b 3 0) (getD b 16 0)) condition.Counts 16 _ (c2 .1) in
+    let c4 = unless-none (eqb (length b) (counted-length kind b)) condition.CountedLength 14 None (c3 .1) in
+    record {
+      long = (leb-true _ _ (l .0), leb-true _ _ (l .1));
+      edition = eqb-true _ _ (o2 .0);
+      our-kind = eqb-true _ _ (o3 .0);
+      sender = true-number _ (p1 .0);
+      addressee = true-number _ (a .0);
+      another = eqb-false _ _ (not-true _ (a .1));
+      tier = leb-true _ _ (p3 .0);
+      holds = leb-true _ _ (s1 .0);
+      source-clock = leb-true _ _ (s2 .0);
+      destination-clock = leb-true _ _ (s3 .0);
+      few-slots = leb-true _ _ (c1 .0);
+      few-tokens = leb-true _ _ (c2 .0);
+      few-entries = c3 .0;
+      counted = eqb-true _ _ (c4 .0);
+    }
+
+-- what the conditions on the lists say
+record FineLists {V : Type 0} (kind : Kind V) (b : List ℕ) : Type 0 where
+  slot-row : row-fault (slots (getD b 2 0)) (getD b 14 0) 0 17 (drop 17 b) ≡ None
+  token-row : row-fault (tokens kind) (getD b 15 0) 0 (tokens-place kind b) (drop (tokens-place kind b) b) ≡ None
+  entry-row : row-fault (entries kind) (getD b 16 0) 0 (entries-place kind b) (drop (entries-place kind b) b) ≡ None
+  own-entry : (not (eqb (getD b 3 0) 0) || has-entry (getD b 2 0) (entries-shown kind b)) ≡ true
+
+fine-lists : {V : Type 0} (kind : Kind V) (b : List ℕ) → lists-fault kind b ≡ None → FineLists kind b
+unfolding lists-fault
+fine-lists kind b fine =
+    let r1 = parts-none (row-fault (slots (getD b 2 0)) (getD b 14 0) 0 17 (drop 17 b)) _ fine in
+    let r2 = parts-none (row-fault (tokens kind) (getD b 15 0) 0 (tokens-place kind b) (drop (tokens-place kind b) b)) _ (r1 .1) in
+    let r3 = parts-none (row-fault (entries kind) (getD b 16 0) 0 (entries-place kind b) (drop (entries-place kind b) b)) (own-entry-fault kind b) (r2 .1) in
+    let r4 = unless-none (not (eqb (getD b 3 0) 0) || has-entry (getD b 2 0) (entries-shown kind b)) condition.OwnEntry 16 None (r3 .1) in
+    record { slot-row = r1 .0; token-row = r2 .0; entry-row = r3 .0; own-entry = r4 .0 }
+
+module _ {V : Type 0} (kind : Kind V) (laws : Lawful kind) (b : List ℕ) (octets : Octets b) (fine : frame-fault kind b ≡ None) where
+  head : FineHeader kind b
+  head = fine-header kind b (parts-none (header-fault kind b) (lists-fault kind b) fine .0)
+
+  lists : FineLists kind b
+  lists = fine-lists kind b (parts-none (header-fault kind b) (lists-fault kind b) fine .1)
 
   header-again : header-bytes kind (shown kind b) ++ drop 17 b ≡ b
   unfolding shown
   header-again =
-      let c = conditions in
+      let c = head in
       let long = c .long .0 in
       let n = length-shown (slots (getD b 2 0)) (getD b 14 0) (drop 17 b) in
       let m = length-shown (tokens kind) (getD b 15 0) (drop (tokens-place kind b) b) in
@@ -291,23 +300,23 @@ module _ {V : Type 0} (kind : Kind V) (laws : Lawful kind) (b : List ℕ) (octet
   -- the rows, and that they fill the bytes
   slot-part : (row-bytes (slots (getD b 2 0)) (slots-shown kind b) ≡ take (getD b 14 0 * 9) (drop 17 b)) × Row (slots (getD b 2 0)) 0 (slots-shown kind b)
   slot-part =
-      let c = conditions in row-only (slots (getD b 2 0)) (slots-sound (getD b 2 0)) (getD b 14 0) (drop 17 b) 0 17 (omega (arith, length-drop 17 b, c .counted)) (octets-drop 17 b octets) (c .slot-row)
+      let c = head in row-only (slots (getD b 2 0)) (slots-sound (getD b 2 0)) (getD b 14 0) (drop 17 b) 0 17 (omega (arith, length-drop 17 b, c .counted)) (octets-drop 17 b octets) (lists .slot-row)
 
   token-part : (row-bytes (tokens kind) (tokens-shown kind b) ≡ take (getD b 15 0 * (10 + kind .width)) (drop (tokens-place kind b) b)) × Row (tokens kind) 0 (tokens-shown kind b)
   token-part =
-      let c = conditions in
+      let c = head in
       let p = tokens-place kind b in
-      row-only (tokens kind) (tokens-sound kind laws) (getD b 15 0) (drop p b) 0 p (omega (arith, length-drop p b, c .counted)) (octets-drop p b octets) (c .token-row)
+      row-only (tokens kind) (tokens-sound kind laws) (getD b 15 0) (drop p b) 0 p (omega (arith, length-drop p b, c .counted)) (octets-drop p b octets) (lists .token-row)
 
   entry-part : (row-bytes (entries kind) (entries-shown kind b) ≡ take (getD b 16 0 * (5 + kind .width)) (drop (entries-place kind b) b)) × Row (entries kind) 0 (entries-shown kind b)
   entry-part =
-      let c = conditions in
+      let c = head in
       let p = entries-place kind b in
-      row-only (entries kind) (entries-sound kind laws) (getD b 16 0) (drop p b) 0 p (omega (arith, length-drop p b, c .counted)) (octets-drop p b octets) (c .entry-row)
+      row-only (entries kind) (entries-sound kind laws) (getD b 16 0) (drop p b) 0 p (omega (arith, length-drop p b, c .counted)) (octets-drop p b octets) (lists .entry-row)
 
   rows-again : row-bytes (slots (getD b 2 0)) (slots-shown kind b) ++ (row-bytes (tokens kind) (tokens-shown kind b) ++ row-bytes (entries kind) (entries-shown kind b)) ≡ drop 17 b
   rows-again =
-      let c = conditions in
+      let c = head in
       let s = getD b 14 0 * 9 in
       let t = getD b 15 0 * (10 + kind .width) in
       let e = getD b 16 0 * (5 + kind .width) in
@@ -324,7 +333,7 @@ module _ {V : Type 0} (kind : Kind V) (laws : Lawful kind) (b : List ℕ) (octet
   pub lawful-shown : LawfulFrame kind (shown kind b)
   unfolding shown
   lawful-shown =
-      let c = conditions in
+      let c = head in
       record {
         sender-number = c .sender;
         addressee-number = c .addressee;
@@ -339,7 +348,7 @@ module _ {V : Type 0} (kind : Kind V) (laws : Lawful kind) (b : List ℕ) (octet
         token-row = token-part .1;
         entry-row = entry-part .1;
         own-entry = λ t.
-            ⊎-elim (λ (u : not (eqb (getD b 3 0) 0) ≡ true). absurd (eqb-false (getD b 3 0) 0 (not-true _ u) t)) (λ (u : has-entry (getD b 2 0) (entries-shown kind b) ≡ true). u) (or-cases (not (eqb (getD b 3 0) 0)) _ (c .own-entry));
+            ⊎-elim (λ (u : not (eqb (getD b 3 0) 0) ≡ true). absurd (eqb-false (getD b 3 0) 0 (not-true _ u) t)) (λ (u : has-entry (getD b 2 0) (entries-shown kind b) ≡ true). u) (or-cases (not (eqb (getD b 3 0) 0)) _ (lists .own-entry));
       }
 
 pub exact : {V : Type 0} (kind : Kind V) → Lawful kind → Exact kind

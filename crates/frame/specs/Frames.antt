@@ -44,6 +44,15 @@ abbrev pub has-entry : {V : Type 0} → ℕ → List (Entry V) → Bool
 has-entry n [] = false
 has-entry n (e ∷ es) = eqb (e .number) n || has-entry n es
 
+-- the conditions on the parties, and on what the sender says of itself
+abbrev pub parties-fault : List ℕ → Option FrameFault
+parties-fault b =
+    unless (number (getD b 2 0)) condition.Parties 2
+    (unless (number (getD b 4 0) && not (eqb (getD b 4 0) (getD b 2 0))) condition.Parties 4 (unless (leb (getD b 3 0) tier-max) condition.Parties 3 None))
+
+abbrev pub state-fault : List ℕ → Option FrameFault
+state-fault b = unless (leb (getD b 5 0) 1) condition.Holding 5 (unless (within-limit (four b 6)) condition.Clock 6 (unless (within-limit (four b 10)) condition.Clock 10 None))
+
 module _ {V : Type 0} (kind : Kind V) where
   pub record LawfulFrame (f : Frame V) : Type 0 where
     pub sender-number : Number (f .sender)
@@ -110,14 +119,6 @@ module _ {V : Type 0} (kind : Kind V) where
   abbrev pub opening-fault : List ℕ → Option FrameFault
   opening-fault b =
       unless (leb frame-bytes-min (length b) && leb (length b) frame-bytes-max) condition.Length 0 (unless (eqb (getD b 0 0) 1) condition.Edition 0 (unless (eqb (getD b 1 0) (kind .code)) condition.Kind 1 None))
-
-  abbrev pub parties-fault : List ℕ → Option FrameFault
-  parties-fault b =
-      unless (number (getD b 2 0)) condition.Parties 2
-      (unless (number (getD b 4 0) && not (eqb (getD b 4 0) (getD b 2 0))) condition.Parties 4 (unless (leb (getD b 3 0) tier-max) condition.Parties 3 None))
-
-  abbrev pub state-fault : List ℕ → Option FrameFault
-  state-fault b = unless (leb (getD b 5 0) 1) condition.Holding 5 (unless (within-limit (four b 6)) condition.Clock 6 (unless (within-limit (four b 10)) condition.Clock 10 None))
 
   abbrev pub counts-fault : List ℕ → Option FrameFault
   counts-fault b =

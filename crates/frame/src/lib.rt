@@ -1,1 +1,8 @@
 //! Frames: the format, its reader and its writer.
+pub mod entries;
+pub mod header;
+pub mod item;
+pub mod rows;
+pub mod slots;
+pub mod tallies;
+pub mod tokens;
