@@ -47,7 +47,7 @@ holds-byte : (h : Bool) → leb (cond h 1 0) 1 ≡ true
 holds-byte true = refl
 holds-byte false = refl
 
-frame-same : {V : Type 0} (x y : Frame V) → x .sender ≡ y .sender → x .tier ≡ y .tier → x .addressee ≡ y .addressee → x .holds ≡ y .holds → x .source-clock ≡ y .source-clock → x .destination-clock ≡ y .destination-clock → x .slot-list ≡ y .slot-list → x .token-list ≡ y .token-list → x .entry-list ≡ y .entry-list → x ≡ y
+pub frame-same : {V : Type 0} (x y : Frame V) → x .sender ≡ y .sender → x .tier ≡ y .tier → x .addressee ≡ y .addressee → x .holds ≡ y .holds → x .source-clock ≡ y .source-clock → x .destination-clock ≡ y .destination-clock → x .slot-list ≡ y .slot-list → x .token-list ≡ y .token-list → x .entry-list ≡ y .entry-list → x ≡ y
 frame-same x y a b c d e f g h j = λ i. record { sender = a i; tier = b i; addressee = c i; holds = d i; source-clock = e i; destination-clock = f i; slot-list = g i; token-list = h i; entry-list = j i }
 
 abbrev Each : List ℕ → Type 0
@@ -69,7 +69,7 @@ module _ {V : Type 0} (kind : Kind V) (laws : Lawful kind) (f : Frame V) (ok : L
   all-entries : List ℕ
   all-entries = row-bytes (entries kind) (f .entry-list)
 
-  at-tokens : drop (tokens-place kind (frame-bytes kind f)) (frame-bytes kind f) ≡ all-tokens ++ all-entries
+  at-tokens : drop (tokens-place (frame-bytes kind f)) (frame-bytes kind f) ≡ all-tokens ++ all-entries
   unfolding frame-bytes all-slots all-tokens all-entries
   at-tokens =
       let n = length (f .slot-list) * 9 in
@@ -79,7 +79,7 @@ module _ {V : Type 0} (kind : Kind V) (laws : Lawful kind) (f : Frame V) (ok : L
   unfolding frame-bytes all-slots all-tokens all-entries
   at-entries =
       let n = length (f .token-list) * (10 + kind .width) in
-      sym (drop-drop n (tokens-place kind (frame-bytes kind f)) (frame-bytes kind f)) ∙ ap (drop n) at-tokens ∙ drop-at all-tokens all-entries n (length-row (tokens kind) (tokens-sound kind laws) (f .token-list))
+      sym (drop-drop n (tokens-place (frame-bytes kind f)) (frame-bytes kind f)) ∙ ap (drop n) at-tokens ∙ drop-at all-tokens all-entries n (length-row (tokens kind) (tokens-sound kind laws) (f .token-list))
 
   length-frame : length (frame-bytes kind f) ≡ counted-length kind (frame-bytes kind f)
   unfolding frame-bytes all-slots all-tokens all-entries
@@ -112,7 +112,7 @@ module _ {V : Type 0} (kind : Kind V) (laws : Lawful kind) (f : Frame V) (ok : L
       (unless-passes _ condition.Counts 15 _ (le-leb _ _ (ok .few-tokens))
       (unless-passes _ condition.Counts 16 _ (ok .few-entries) (unless-passes _ condition.CountedLength 14 None (eq-eqb _ _ length-frame) refl))))))
 
-  slots-back : slots-shown kind (frame-bytes kind f) ≡ f .slot-list
+  slots-back : slots-shown (frame-bytes kind f) ≡ f .slot-list
   unfolding frame-bytes
   slots-back = row-back (slots (f .sender)) (slots-sound (f .sender)) (f .slot-list) 0 _ (ok .slot-row)
 
@@ -130,7 +130,7 @@ module _ {V : Type 0} (kind : Kind V) (laws : Lawful kind) (f : Frame V) (ok : L
   passes-lists =
       let b = frame-bytes kind f in
       none-then _ _ (row-passes (slots (f .sender)) (slots-sound (f .sender)) (f .slot-list) 0 17 (all-tokens ++ all-entries) (ok .slot-row))
-      (none-then _ _ (ap (row-fault (tokens kind) (length (f .token-list)) 0 (tokens-place kind b)) at-tokens ∙ row-passes (tokens kind) (tokens-sound kind laws) (f .token-list) 0 (tokens-place kind b) all-entries (ok .token-row))
+      (none-then _ _ (ap (row-fault (tokens kind) (length (f .token-list)) 0 (tokens-place b)) at-tokens ∙ row-passes (tokens kind) (tokens-sound kind laws) (f .token-list) 0 (tokens-place b) all-entries (ok .token-row))
       (none-then _ _
       (ap (row-fault (entries kind) (length (f .entry-list)) 0 (entries-place kind b)) (at-entries ∙ sym (append-nil all-entries)) ∙ row-passes (entries kind) (entries-sound kind laws) (f .entry-list) 0 (entries-place kind b) [] (ok .entry-row))
       (unless-passes _ condition.OwnEntry 16 None own refl)))
@@ -257,7 +257,7 @@ fine-header kind b fine =
 -- what the conditions on the lists say
 record FineLists {V : Type 0} (kind : Kind V) (b : List ℕ) : Type 0 where
   slot-row : row-fault (slots (getD b 2 0)) (getD b 14 0) 0 17 (drop 17 b) ≡ None
-  token-row : row-fault (tokens kind) (getD b 15 0) 0 (tokens-place kind b) (drop (tokens-place kind b) b) ≡ None
+  token-row : row-fault (tokens kind) (getD b 15 0) 0 (tokens-place b) (drop (tokens-place b) b) ≡ None
   entry-row : row-fault (entries kind) (getD b 16 0) 0 (entries-place kind b) (drop (entries-place kind b) b) ≡ None
   own-entry : (not (eqb (getD b 3 0) 0) || has-entry (getD b 2 0) (entries-shown kind b)) ≡ true
 
@@ -265,7 +265,7 @@ fine-lists : {V : Type 0} (kind : Kind V) (b : List ℕ) → lists-fault kind b 
 unfolding lists-fault
 fine-lists kind b fine =
     let r1 = parts-none (row-fault (slots (getD b 2 0)) (getD b 14 0) 0 17 (drop 17 b)) _ fine in
-    let r2 = parts-none (row-fault (tokens kind) (getD b 15 0) 0 (tokens-place kind b) (drop (tokens-place kind b) b)) _ (r1 .1) in
+    let r2 = parts-none (row-fault (tokens kind) (getD b 15 0) 0 (tokens-place b) (drop (tokens-place b) b)) _ (r1 .1) in
     let r3 = parts-none (row-fault (entries kind) (getD b 16 0) 0 (entries-place kind b) (drop (entries-place kind b) b)) (own-entry-fault kind b) (r2 .1) in
     let r4 = unless-none (not (eqb (getD b 3 0) 0) || has-entry (getD b 2 0) (entries-shown kind b)) condition.OwnEntry 16 None (r3 .1) in
     record { slot-row = r1 .0; token-row = r2 .0; entry-row = r3 .0; own-entry = r4 .0 }
@@ -283,7 +283,7 @@ module _ {V : Type 0} (kind : Kind V) (laws : Lawful kind) (b : List ℕ) (octet
       let c = head in
       let long = c .long .0 in
       let n = length-shown (slots (getD b 2 0)) (getD b 14 0) (drop 17 b) in
-      let m = length-shown (tokens kind) (getD b 15 0) (drop (tokens-place kind b) b) in
+      let m = length-shown (tokens kind) (getD b 15 0) (drop (tokens-place b) b) in
       let k = length-shown (entries kind) (getD b 16 0) (drop (entries-place kind b) b) in
       let x16 = one-byte b 16 _ (drop 17 b) (omega arith) k refl in
       let x15 = one-byte b 15 _ _ (omega arith) m x16 in
@@ -298,14 +298,14 @@ module _ {V : Type 0} (kind : Kind V) (laws : Lawful kind) (b : List ℕ) (octet
       one-byte b 0 1 _ (omega arith) (sym (c .edition)) x1
 
   -- the rows, and that they fill the bytes
-  slot-part : (row-bytes (slots (getD b 2 0)) (slots-shown kind b) ≡ take (getD b 14 0 * 9) (drop 17 b)) × Row (slots (getD b 2 0)) 0 (slots-shown kind b)
+  slot-part : (row-bytes (slots (getD b 2 0)) (slots-shown b) ≡ take (getD b 14 0 * 9) (drop 17 b)) × Row (slots (getD b 2 0)) 0 (slots-shown b)
   slot-part =
       let c = head in row-only (slots (getD b 2 0)) (slots-sound (getD b 2 0)) (getD b 14 0) (drop 17 b) 0 17 (omega (arith, length-drop 17 b, c .counted)) (octets-drop 17 b octets) (lists .slot-row)
 
-  token-part : (row-bytes (tokens kind) (tokens-shown kind b) ≡ take (getD b 15 0 * (10 + kind .width)) (drop (tokens-place kind b) b)) × Row (tokens kind) 0 (tokens-shown kind b)
+  token-part : (row-bytes (tokens kind) (tokens-shown kind b) ≡ take (getD b 15 0 * (10 + kind .width)) (drop (tokens-place b) b)) × Row (tokens kind) 0 (tokens-shown kind b)
   token-part =
       let c = head in
-      let p = tokens-place kind b in
+      let p = tokens-place b in
       row-only (tokens kind) (tokens-sound kind laws) (getD b 15 0) (drop p b) 0 p (omega (arith, length-drop p b, c .counted)) (octets-drop p b octets) (lists .token-row)
 
   entry-part : (row-bytes (entries kind) (entries-shown kind b) ≡ take (getD b 16 0 * (5 + kind .width)) (drop (entries-place kind b) b)) × Row (entries kind) 0 (entries-shown kind b)
@@ -314,13 +314,13 @@ module _ {V : Type 0} (kind : Kind V) (laws : Lawful kind) (b : List ℕ) (octet
       let p = entries-place kind b in
       row-only (entries kind) (entries-sound kind laws) (getD b 16 0) (drop p b) 0 p (omega (arith, length-drop p b, c .counted)) (octets-drop p b octets) (lists .entry-row)
 
-  rows-again : row-bytes (slots (getD b 2 0)) (slots-shown kind b) ++ (row-bytes (tokens kind) (tokens-shown kind b) ++ row-bytes (entries kind) (entries-shown kind b)) ≡ drop 17 b
+  rows-again : row-bytes (slots (getD b 2 0)) (slots-shown b) ++ (row-bytes (tokens kind) (tokens-shown kind b) ++ row-bytes (entries kind) (entries-shown kind b)) ≡ drop 17 b
   rows-again =
       let c = head in
       let s = getD b 14 0 * 9 in
       let t = getD b 15 0 * (10 + kind .width) in
       let e = getD b 16 0 * (5 + kind .width) in
-      let p = tokens-place kind b in
+      let p = tokens-place b in
       let q = entries-place kind b in
       let last = entry-part .0 ∙ take-all e (drop q b) (omega (arith, length-drop q b, c .counted)) in
       let middle = ap₂ _++_ (token-part .0) (last ∙ sym (drop-drop t p b)) ∙ take-append-drop t (drop p b) in
@@ -342,7 +342,7 @@ module _ {V : Type 0} (kind : Kind V) (laws : Lawful kind) (b : List ℕ) (octet
         source-clock-within = c .source-clock;
         destination-clock-within = c .destination-clock;
         few-slots = omega (arith, length-shown (slots (getD b 2 0)) (getD b 14 0) (drop 17 b), c .few-slots);
-        few-tokens = omega (arith, length-shown (tokens kind) (getD b 15 0) (drop (tokens-place kind b) b), c .few-tokens);
+        few-tokens = omega (arith, length-shown (tokens kind) (getD b 15 0) (drop (tokens-place b) b), c .few-tokens);
         few-entries = ap (entries-allowed (getD b 3 0)) (length-shown (entries kind) (getD b 16 0) (drop (entries-place kind b) b)) ∙ c .few-entries;
         slot-row = slot-part .1;
         token-row = token-part .1;

@@ -1,7 +1,7 @@
 -- Items in a row of bytes: each in so many bytes, rising by rank. Reading a row and writing it are each other's inverse wherever that holds of one item.
 use mathlib.Core.Path.{_≡_, refl, sym, ap, ap₂, subst, _∙_}
 use mathlib.Core.List.{List, [], _∷_, _++_, append-assoc}
-use Prim.Native.Nat.{ℕ, zero, suc, _+_, _*_, _<_, _≤_}
+use Prim.Native.Nat.{ℕ, zero, suc, _+_, _*_, _/_, _<_, _≤_}
 use native.Mathlib.Nat.{add-mul, zero-mul}
 use native.Mathlib.Omega.{arith}
 use lib.ListN.{length, take, drop, length-append, length-drop, length-take}
@@ -52,6 +52,10 @@ module _ {I : Type 0} (format : Format I) where
   unfoldable pub shown-row : ℕ → List ℕ → List I
   shown-row zero b = []
   shown-row (suc n) b = format .shows (take (format .width) b) ∷ shown-row n (drop (format .width) b)
+
+  -- the items of a part of the bytes, as many as fit
+  abbrev pub row-of : List ℕ → List I
+  row-of b = shown-row (length b / format .width) b
 
   -- the first fault of n items from a place on
   unfoldable pub row-fault : ℕ → ℕ → ℕ → List ℕ → Option FrameFault

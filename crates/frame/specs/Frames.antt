@@ -53,6 +53,14 @@ parties-fault b =
 abbrev pub state-fault : List ℕ → Option FrameFault
 state-fault b = unless (leb (getD b 5 0) 1) condition.Holding 5 (unless (within-limit (four b 6)) condition.Clock 6 (unless (within-limit (four b 10)) condition.Clock 10 None))
 
+-- where the tokens begin
+abbrev pub tokens-place : List ℕ → ℕ
+tokens-place b = 17 + getD b 14 0 * 9
+
+-- the slots that bytes show
+abbrev pub slots-shown : List ℕ → List SourceSlot
+slots-shown b = shown-row (slots (getD b 2 0)) (getD b 14 0) (drop 17 b)
+
 module _ {V : Type 0} (kind : Kind V) where
   pub record LawfulFrame (f : Frame V) : Type 0 where
     pub sender-number : Number (f .sender)
@@ -80,10 +88,7 @@ module _ {V : Type 0} (kind : Kind V) where
   unfoldable pub frame-bytes : Frame V → List ℕ
   frame-bytes f = header-bytes f ++ (row-bytes (slots (f .sender)) (f .slot-list) ++ (row-bytes (tokens kind) (f .token-list) ++ row-bytes (entries kind) (f .entry-list)))
 
-  -- where the lists of bytes begin
-  abbrev pub tokens-place : List ℕ → ℕ
-  tokens-place b = 17 + getD b 14 0 * 9
-
+  -- where the entries begin
   abbrev pub entries-place : List ℕ → ℕ
   entries-place b = tokens-place b + getD b 15 0 * (10 + kind .width)
 
@@ -92,9 +97,6 @@ module _ {V : Type 0} (kind : Kind V) where
   counted-length b = entries-place b + getD b 16 0 * (5 + kind .width)
 
   -- the lists that bytes show
-  abbrev pub slots-shown : List ℕ → List SourceSlot
-  slots-shown b = shown-row (slots (getD b 2 0)) (getD b 14 0) (drop 17 b)
-
   abbrev pub tokens-shown : List ℕ → List (Token V)
   tokens-shown b = shown-row (tokens kind) (getD b 15 0) (drop (tokens-place b) b)
 

@@ -1,3 +1,5 @@
 pub mod Format
 pub mod Items
+pub mod Laid
 pub mod Frames
+pub mod View

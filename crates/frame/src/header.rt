@@ -149,7 +149,8 @@ fn counted_length<K: Tally>(slots: u8, tokens: u8, entries: u8) -> usize
     ensures { λ r. ⌜ r ≡ 17 + slots * 9 + tokens * (10 + kind .width) + entries * (5 + kind .width) ⌝ }
 {
     let width = K::width();
-    17 + usize::from(slots) * 9
+    17
+        + usize::from(slots) * 9
         + usize::from(tokens) * (10 + width)
         + usize::from(entries) * (5 + width)
 }

@@ -1,6 +1,6 @@
 //! What slots, tokens and entries have in common as items of a frame's lists.
 ghost use mathlib.Core.Path.{_≡_};
-ghost use Prim.Native.Nat.{ℕ, _≤_};
+ghost use Prim.Native.Nat.{ℕ, _≤_, _<_};
 ghost use lib.ListN.{length};
 ghost use Rattle.protocol.specs.Limits.{frame-bytes-max};
 ghost use Rattle.frame.specs.Format.{Format};
@@ -9,6 +9,8 @@ use protocol::refusal::FrameFault;
 /// An item of a frame's lists. Its meaning is its format in the frames of each sender.
 pub trait Item: Copy {
     ghost format: { ℕ → Format Self };
+
+    law wide: { 0 < format 0 .width };
 
     /// How many bytes an item is written in.
     fn width() -> usize

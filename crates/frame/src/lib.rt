@@ -2,6 +2,8 @@
 pub mod entries;
 pub mod header;
 pub mod item;
+pub mod reader;
+pub mod received;
 pub mod rows;
 pub mod slots;
 pub mod tallies;

@@ -4,11 +4,19 @@ ghost use Prim.Native.Nat.{ℕ, _+_, _*_, _≤_, _<_};
 ghost use lib.ListN.{length, drop};
 ghost use Rattle.protocol.specs.Limits.{frame-bytes-max};
 ghost use Rattle.frame.specs.Format.{row-fault, shown-row};
+ghost use Rattle.frame.specs.Items.{entries};
+ghost use Rattle.frame.specs.Frames.{has-entry};
 use crate::item::Item;
 use protocol::refusal::FrameFault;
+use tally::kind::Tally;
 
 /// The first fault of so many items from a place on, in the frame of a sender.
-pub fn row_fault<I: Item>(bytes: &[u8], sender: u8, start: usize, count: usize) -> Option<FrameFault>
+pub fn row_fault<I: Item>(
+    bytes: &[u8],
+    sender: u8,
+    start: usize,
+    count: usize,
+) -> Option<FrameFault>
     requires within { ⌜ start + count * format sender .width ≤ length (now bytes) ⌝ }
     requires long { ⌜ length (now bytes) ≤ frame-bytes-max ⌝ }
     ensures { λ r. ⌜ r ≡ row-fault (format sender) count 0 start (drop start (now (bytes .entry))) ⌝ }
@@ -25,4 +33,21 @@ pub fn row_fault<I: Item>(bytes: &[u8], sender: u8, start: usize, count: usize) 
         at += width;
     }
     None
+}
+
+/// Whether an entry of a number is among so many entries from a place on.
+pub fn has_entry<K: Tally>(bytes: &[u8], start: usize, count: usize, number: u8) -> bool
+    requires within { ⌜ start + count * (5 + kind .width) ≤ length (now bytes) ⌝ }
+    requires long { ⌜ length (now bytes) ≤ frame-bytes-max ⌝ }
+    ensures { λ r. ⌜ r ≡ has-entry number (shown-row (entries kind) count (drop start (now (bytes .entry)))) ⌝ }
+{
+    let width = 5 + K::width();
+    let mut at = start;
+    for _entry in 0..count {
+        if bytes[at] == number {
+            return true;
+        }
+        at += width;
+    }
+    false
 }

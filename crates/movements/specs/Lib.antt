@@ -1,0 +1,14 @@
+pub mod Pairs
+pub mod Faults
+pub mod Merging
+pub mod Order
+pub mod FirstFault
+pub mod Join
+pub mod Coding
+pub mod Kind
+pub mod ByKey
+pub mod ByKeyOnly
+pub mod Sample
+pub mod Gathering
+pub mod One
+pub mod ReadInWords
