@@ -58,6 +58,15 @@ each-octets : (b : List ℕ) → Each b → Octets b
 each-octets [] e = octets-nil
 each-octets (x ∷ b) e = octets-cons x b (e .0) (each-octets b (e .1))
 
+-- the length of any frame's writing
+pub length-of-frame : {V : Type 0} (kind : Kind V) → Lawful kind → (f : Frame V) → length (frame-bytes kind f) ≡ 17 + length (f .slot-list) * 9 + length (f .token-list) * (10 + kind .width) + length (f .entry-list) * (5 + kind .width)
+unfolding frame-bytes
+length-of-frame kind laws f =
+    let s = row-bytes (slots (f .sender)) (f .slot-list) in
+    let t = row-bytes (tokens kind) (f .token-list) in
+    let e = row-bytes (entries kind) (f .entry-list) in
+    omega (arith, length-append s (t ++ e), length-append t e, length-row (slots (f .sender)) (slots-sound (f .sender)) (f .slot-list), length-row (tokens kind) (tokens-sound kind laws) (f .token-list), length-row (entries kind) (entries-sound kind laws) (f .entry-list))
+
 -- a written frame
 module _ {V : Type 0} (kind : Kind V) (laws : Lawful kind) (f : Frame V) (ok : LawfulFrame kind f) where
   all-slots : List ℕ
@@ -82,9 +91,8 @@ module _ {V : Type 0} (kind : Kind V) (laws : Lawful kind) (f : Frame V) (ok : L
       sym (drop-drop n (tokens-place (frame-bytes kind f)) (frame-bytes kind f)) ∙ ap (drop n) at-tokens ∙ drop-at all-tokens all-entries n (length-row (tokens kind) (tokens-sound kind laws) (f .token-list))
 
   length-frame : length (frame-bytes kind f) ≡ counted-length kind (frame-bytes kind f)
-  unfolding frame-bytes all-slots all-tokens all-entries
-  length-frame =
-      omega (arith, length-append all-slots (all-tokens ++ all-entries), length-append all-tokens all-entries, length-row (slots (f .sender)) (slots-sound (f .sender)) (f .slot-list), length-row (tokens kind) (tokens-sound kind laws) (f .token-list), length-row (entries kind) (entries-sound kind laws) (f .entry-list))
+  unfolding frame-bytes
+  length-frame = length-of-frame kind laws f
 
   long-enough : (frame-bytes-min ≤ length (frame-bytes kind f)) × (length (frame-bytes kind f) ≤ frame-bytes-max)
   unfolding frame-bytes

@@ -79,11 +79,13 @@ module _ {V : Type 0} (kind : Kind V) where
     -- a server shows its own entry
     pub own-entry : f .tier ≡ 0 → has-entry (f .sender) (f .entry-list) ≡ true
 
-  -- its writing
+  -- its writing: the header, with the counts of its lists, and then the lists
+  abbrev pub header-of : ℕ → ℕ → ℕ → Bool → ℕ → ℕ → ℕ → ℕ → ℕ → List ℕ
+  header-of sender tier addressee holds source-clock destination-clock slot-count token-count entry-count =
+      1 ∷ kind .code ∷ sender ∷ tier ∷ addressee ∷ cond holds 1 0 ∷ (four-bytes source-clock ++ (four-bytes destination-clock ++ (slot-count ∷ token-count ∷ entry-count ∷ [])))
+
   abbrev pub header-bytes : Frame V → List ℕ
-  header-bytes f =
-      1 ∷ kind .code ∷ f .sender ∷ f .tier ∷ f .addressee ∷ cond (f .holds) 1 0
-      ∷ (four-bytes (f .source-clock) ++ (four-bytes (f .destination-clock) ++ (length (f .slot-list) ∷ length (f .token-list) ∷ length (f .entry-list) ∷ [])))
+  header-bytes f = header-of (f .sender) (f .tier) (f .addressee) (f .holds) (f .source-clock) (f .destination-clock) (length (f .slot-list)) (length (f .token-list)) (length (f .entry-list))
 
   unfoldable pub frame-bytes : Frame V → List ℕ
   frame-bytes f = header-bytes f ++ (row-bytes (slots (f .sender)) (f .slot-list) ++ (row-bytes (tokens kind) (f .token-list) ++ row-bytes (entries kind) (f .entry-list)))

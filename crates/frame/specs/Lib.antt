@@ -3,3 +3,4 @@ pub mod Items
 pub mod Laid
 pub mod Frames
 pub mod View
+pub mod Written

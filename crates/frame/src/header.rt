@@ -144,8 +144,8 @@ fn counts_fault<K: Tally>(bytes: &[u8]) -> Option<FrameFault>
     None
 }
 
-// The length of a frame with so many slots, tokens and entries.
-fn counted_length<K: Tally>(slots: u8, tokens: u8, entries: u8) -> usize
+/// The length of a frame with so many slots, tokens and entries.
+pub fn counted_length<K: Tally>(slots: u8, tokens: u8, entries: u8) -> usize
     ensures { λ r. ⌜ r ≡ 17 + slots * 9 + tokens * (10 + kind .width) + entries * (5 + kind .width) ⌝ }
 {
     let width = K::width();

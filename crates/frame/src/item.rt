@@ -12,6 +12,8 @@ pub trait Item: Copy {
 
     law wide: { 0 < format 0 .width };
 
+    law long: { (x : Self) → length (format 0 .bytes x) ≡ format 0 .width };
+
     /// How many bytes an item is written in.
     fn width() -> usize
         ensures { λ r. ⌜ ((sender : ℕ) → r ≡ format sender .width) ⌝ };
