@@ -22,9 +22,9 @@ use Rattle.protocol.specs.declared.records.Token.{Token}
 use Rattle.protocol.specs.declared.records.Entry.{Entry}
 use Rattle.protocol.specs.declared.refusal.Condition.the-variants as condition
 use Rattle.protocol.specs.declared.refusal.FrameFault.{FrameFault}
-use Rattle.frame.specs.Format.{Format, or-else, parts-none, Row, row-bytes, shown-row, row-fault, length-row, octets-row, row-back, row-passes, row-only, length-shown}
-use Rattle.frame.specs.Items.{Number, number, unless, unless-none, unless-passes, within-limit, slots, tokens, entries, slots-sound, tokens-sound, entries-sound, number-true, true-number, number-fits, clock-fits, four-front}
-use Rattle.frame.specs.Frames.{Frame, LawfulFrame, Exact, entries-allowed, has-entry, header-bytes, frame-bytes, tokens-place, entries-place, counted-length, slots-shown, tokens-shown, entries-shown, shown, opening-fault, parties-fault, state-fault, counts-fault, header-fault, own-entry-fault, lists-fault, frame-fault, verdict, judge}
+use Rattle.frame_items.specs.Format.{Format, or-else, parts-none, Row, row-bytes, shown-row, row-fault, length-row, octets-row, row-back, row-passes, row-only, length-shown}
+use Rattle.frame_items.specs.Items.{Number, number, unless, unless-none, unless-passes, within-limit, has-entry, slots, tokens, entries, slots-sound, tokens-sound, entries-sound, number-true, true-number, number-fits, clock-fits, four-front}
+use Rattle.frame.specs.Frames.{Frame, LawfulFrame, Exact, entries-allowed, header-bytes, frame-bytes, tokens-place, entries-place, counted-length, slots-shown, tokens-shown, entries-shown, shown, opening-fault, parties-fault, state-fault, counts-fault, header-fault, own-entry-fault, lists-fault, frame-fault, verdict, judge}
 
 none-then : (first later : Option FrameFault) → first ≡ None → later ≡ None → or-else first later ≡ None
 none-then first later e f = ap (λ o. or-else o later) e ∙ f

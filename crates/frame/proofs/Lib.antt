@@ -1,3 +1,1 @@
 pub mod Exactly
-pub mod Walking
-pub mod Writing

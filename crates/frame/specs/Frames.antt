@@ -19,8 +19,8 @@ use Rattle.protocol.specs.declared.records.Token.{Token}
 use Rattle.protocol.specs.declared.records.Entry.{Entry}
 use Rattle.protocol.specs.declared.refusal.Condition.the-variants as condition
 use Rattle.protocol.specs.declared.refusal.FrameFault.{FrameFault}
-use Rattle.frame.specs.Format.{Format, or-else, Row, row-bytes, shown-row, row-fault}
-use Rattle.frame.specs.Items.{Number, number, unless, within-limit, slots, tokens, entries}
+use Rattle.frame_items.specs.Format.{Format, or-else, Row, row-bytes, shown-row, row-fault}
+use Rattle.frame_items.specs.Items.{Number, number, unless, within-limit, has-entry, slots, tokens, entries}
 
 -- what a frame carries
 pub record Frame (V : Type 0) : Type 0 where
@@ -38,11 +38,6 @@ pub record Frame (V : Type 0) : Type 0 where
 -- a frame has so many entries: none above tier 0, 1 to 4 in tier 0
 abbrev pub entries-allowed : ℕ → ℕ → Bool
 entries-allowed tier count = cond (eqb tier 0) (leb 1 count && leb count 4) (eqb count 0)
-
--- an entry of a number is among them
-abbrev pub has-entry : {V : Type 0} → ℕ → List (Entry V) → Bool
-has-entry n [] = false
-has-entry n (e ∷ es) = eqb (e .number) n || has-entry n es
 
 -- the conditions on the parties, and on what the sender says of itself
 abbrev pub parties-fault : List ℕ → Option FrameFault

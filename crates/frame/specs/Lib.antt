@@ -1,5 +1,3 @@
-pub mod Format
-pub mod Items
 pub mod Laid
 pub mod Frames
 pub mod View

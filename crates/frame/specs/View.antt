@@ -6,8 +6,8 @@ use Rattle.std.specs.declared.result.Result.{Result}
 use Rattle.std.specs.declared.result.Result.the-variants.{Ok, Err}
 use Rattle.tally.specs.Kind.{Kind}
 use Rattle.protocol.specs.declared.refusal.FrameFault.{FrameFault}
-use Rattle.frame.specs.Format.{row-of}
-use Rattle.frame.specs.Items.{slots, tokens, entries}
+use Rattle.frame_items.specs.Format.{row-of}
+use Rattle.frame_items.specs.Items.{slots, tokens, entries}
 use Rattle.frame.specs.Frames.{Frame}
 use Rattle.frame.specs.declared.received.Received.{Received}
 

@@ -2,7 +2,7 @@
 ghost use mathlib.Core.Path.{_≡_};
 ghost use Prim.Native.Nat.{_+_, _*_, _≤_, _<_};
 ghost use lib.ListN.{length, getD};
-ghost use Rattle.frame.specs.Items.{number as is-number};
+ghost use Rattle.frame_items.specs.Items.{number as is-number};
 ghost use Rattle.frame.specs.Frames.{entries-allowed, opening-fault, parties-fault, state-fault, counts-fault, counted-length, header-fault};
 use bytes::u32_at;
 use protocol::limits::CLOCK_MAX;

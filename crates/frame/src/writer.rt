@@ -2,19 +2,19 @@
 ghost use mathlib.Core.Path.{_≡_};
 ghost use mathlib.Core.List.{_++_};
 ghost use Prim.Native.Nat.{ℕ, _+_, _*_, _≤_, _<_};
-ghost use lib.ListN.{length, take, drop};
-ghost use Rattle.frame.specs.Format.{row-bytes};
-ghost use Rattle.frame.specs.Items.{slots, tokens, entries};
+ghost use lib.ListN.{length, drop};
+ghost use Rattle.frame_items.specs.Format.{row-bytes};
+ghost use Rattle.frame_items.specs.Items.{slots, tokens, entries};
 ghost use Rattle.frame.specs.Frames.{header-of, Exact};
 ghost use Rattle.frame.specs.Written.{carried, Written};
-use crate::entries::EntryItem;
 use crate::header::EDITION;
 use crate::header::counted_length;
-use crate::item::Item;
 use crate::outgoing::Outgoing;
 use crate::outgoing::Unwritten;
-use crate::slots::SlotItem;
-use crate::tokens::TokenItem;
+use frame_items::entries::EntryItem;
+use frame_items::rows::write_row;
+use frame_items::slots::SlotItem;
+use frame_items::tokens::TokenItem;
 use tally::kind::Tally;
 
 /// The first bytes of a frame, with the counts of its lists.
@@ -59,21 +59,6 @@ impl Header {
             self.entries,
         ]
     }
-}
-
-/// Writes items one after another from a place on, and answers the place behind them.
-pub fn write_row<I: Item>(items: &[I], out: &mut [u8], start: usize) -> usize
-    requires { ⌜ start + length (now items) * format 0 .width ≤ length (now out) ⌝ }
-    ensures place { λ r. ⌜ r ≡ start + length (now (items .entry)) * format 0 .width ⌝ }
-    ensures bytes { λ r. ⌜ now (out .exit) ≡ (take start (now (out .entry)) ++ row-bytes (format 0) (now (items .entry))) ++ drop r (now (out .entry)) ⌝ }
-{
-    let width = I::width();
-    let mut at = start;
-    for item in items {
-        item.write(&mut out[at..at + width]);
-        at += width;
-    }
-    at
 }
 
 // Writes a header and the lists behind it, and answers the length of the frame.

@@ -1,5 +1,5 @@
 use Rattle.frame.specs.Frames.{opening-fault, parties-fault, state-fault, counts-fault, header-fault}
-use Rattle.frame.proofs.Walking.{by-first, by-second, by-third, by-last}
+use Rattle.frame_items.proofs.Walking.{by-first, by-second, by-third, by-last}
 use Rattle.frame.proofs.header.header_fault.Needs as need
 
 pub returns-in-Some : need.returns-in-Some

@@ -2,7 +2,7 @@ use mathlib.Core.Path.{sym, ap, _∙_}
 use Prim.Native.Nat.{_/_, _≤_}
 use native.Mathlib.Omega.{arith}
 use lib.ListN.{length}
-use Rattle.frame.proofs.Walking.{nth-none, item-fits, item-shown}
+use Rattle.frame_items.proofs.Walking.{nth-none, item-fits, item-shown}
 use Rattle.frame.proofs.reader.item_at.Needs as need
 
 pub returns-then-index-bytes : need.returns-then-index-bytes

@@ -1,10 +1,10 @@
 use mathlib.Core.Path.{_≡_, ap, ap₂, _∙_}
 use native.Mathlib.Omega.{arith}
 use lib.ListN.{getD, drop}
-use Rattle.frame.specs.Format.{row-fault}
-use Rattle.frame.specs.Items.{slots, tokens, entries}
+use Rattle.frame_items.specs.Format.{row-fault}
+use Rattle.frame_items.specs.Items.{slots, tokens, entries}
 use Rattle.frame.specs.Frames.{tokens-place, entries-place, own-entry-fault, lists-fault}
-use Rattle.frame.proofs.Walking.{by-first, by-second, by-third, by-last}
+use Rattle.frame_items.proofs.Walking.{by-first, by-second, by-third, by-last}
 use Rattle.frame.proofs.reader.lists_fault.Needs as need
 
 pub returns-in-Some : need.returns-in-Some

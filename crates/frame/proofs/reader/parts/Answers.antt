@@ -2,11 +2,11 @@ use mathlib.Core.Path.{_≡_, refl, sym, ap, _∙_}
 use Prim.Native.Nat.{_+_, _-_}
 use native.Mathlib.Omega.{arith}
 use lib.ListN.{length, getD, take, drop}
-use Rattle.frame.specs.Format.{shown-row}
-use Rattle.frame.specs.Items.{slots, tokens, entries}
+use Rattle.frame_items.specs.Format.{shown-row}
+use Rattle.frame_items.specs.Items.{slots, tokens, entries}
 use Rattle.frame.specs.Frames.{entries-place, shown}
 use Rattle.frame.proofs.Exactly.{frame-same}
-use Rattle.frame.proofs.Walking.{row-of-part, slots-alike}
+use Rattle.frame_items.proofs.Walking.{row-of-part, slots-alike}
 use Rattle.frame.proofs.reader.parts.Needs as need
 
 pub returns : need.returns

@@ -1,6 +1,6 @@
 use mathlib.Core.Path.{sym, ap, ap₂, _∙_}
 use Rattle.std.specs.declared.option.Option.the-variants.{Some, None}
-use Rattle.frame.specs.Format.{or-else}
+use Rattle.frame_items.specs.Format.{or-else}
 use Rattle.frame.specs.Frames.{header-fault, lists-fault, shown, verdict}
 use Rattle.frame.proofs.Exactly.{exact}
 use Rattle.frame.proofs.reader.read.Needs as need

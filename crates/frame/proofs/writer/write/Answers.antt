@@ -3,8 +3,8 @@ use mathlib.Core.List.{_++_}
 use Prim.Native.Nat.{_+_, _*_}
 use native.Mathlib.Omega.{arith}
 use lib.ListN.{length, drop}
-use Rattle.frame.specs.Format.{row-bytes}
-use Rattle.frame.specs.Items.{slots, tokens, entries}
+use Rattle.frame_items.specs.Format.{row-bytes}
+use Rattle.frame_items.specs.Items.{slots, tokens, entries}
 use Rattle.frame.specs.Frames.{frame-bytes}
 use Rattle.frame.specs.Written.{Few, carried}
 use Rattle.frame.proofs.Exactly.{exact, length-of-frame}

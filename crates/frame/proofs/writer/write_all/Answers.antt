@@ -6,9 +6,9 @@ use borrow.Author.Needs.{needs}
 use borrow.Rule.Slice.PartMut.{putMid}
 use lib.ListN.{length, drop, length-append}
 use Rattle.std.proofs.shelf.Lists.{take-all}
-use Rattle.frame.specs.Format.{row-bytes, length-row}
-use Rattle.frame.specs.Items.{slots, tokens, entries, slots-sound, tokens-sound, entries-sound}
-use Rattle.frame.proofs.Writing.{row-after}
+use Rattle.frame_items.specs.Format.{row-bytes, length-row}
+use Rattle.frame_items.specs.Items.{slots, tokens, entries, slots-sound, tokens-sound, entries-sound}
+use Rattle.frame_items.proofs.Writing.{row-after}
 use Rattle.frame.proofs.writer.write_all.Needs as need
 
 pub returns : need.returns
