@@ -1,0 +1,13 @@
+pub mod Places
+pub mod Frames
+pub mod Conduct
+pub mod Over
+pub mod Rule
+pub mod Held
+pub mod Queue
+pub mod QueueHonest
+pub mod Session
+pub mod QueueOrder
+pub mod Board
+pub mod BoardHonest
+pub mod BoardOrder
