@@ -24,6 +24,13 @@ pub struct Token<K> {
     pub tally: K,
 }
 
+/// The key of a token: where it comes from and where it goes.
+#[derive(Clone, Copy)]
+pub struct Pair {
+    pub source: u8,
+    pub destination: u8,
+}
+
 /// What a server had joined when its version was this.
 #[derive(Clone, Copy)]
 pub struct Entry<K> {

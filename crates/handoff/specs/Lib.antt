@@ -1,0 +1,4 @@
+pub mod Node
+pub mod Taking
+pub mod Showing
+pub mod Eight
