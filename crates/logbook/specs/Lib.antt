@@ -1,0 +1,10 @@
+pub mod Waiting
+pub mod Hexadecimal
+pub mod Steps
+pub mod Held
+pub mod Text
+pub mod Lines
+pub mod Counts
+pub mod Summaries
+pub mod Writing
+pub mod Runs
