@@ -1,8 +1,8 @@
 //! A frame in words.
-use frame_items::entries::EntryItem;
 use frame::reader::item_at;
 use frame::reader::item_count;
 use frame::received::Received;
+use frame_items::entries::EntryItem;
 use frame_items::slots::SlotItem;
 use frame_items::tokens::TokenItem;
 use logbook::tallies::InWords;

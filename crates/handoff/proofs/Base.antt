@@ -83,4 +83,3 @@ each-holds G f (suc q) h a g = h (suc q) (each f q a) (omega arith) (omega arith
 pub none-from : {A : Type 0} (o : Option A) → is-none o ≡ true → o ≡ None
 none-from None e = refl
 none-from (Some a) e = let z : _≡_ {A = ℕ} 0 1 = cc in absurd (omega arith)
-

@@ -51,6 +51,7 @@ module _ {V : Type 0} (kind : Kind V) (f : Received) (n : Node) where
     where
       more : n .«destination_clock» + 1 ≡ suc (n .«destination_clock»)
       more = omega arith
+
       made : (value : V) (own cached : List (Option (Token V))) (entries : ℕ → Option (Entry V)) → seen (record { number = n .number; tier = n .tier; «source_clock» = n .«source_clock»; «destination_clock» = n .«destination_clock» + 1; version = n .version; retired = n .retired; slots = n′ .slots }) value own cached entries ≡ add-slot (f .sender) (showing kind f) (seen n value own cached entries)
       made value own cached entries = λ z. record {
         tier = n .tier;

@@ -69,6 +69,7 @@ same-tokens n s t e = ap (λ z. with-tokens z n) (fun-ext (λ k. fun-ext (λ l. 
 pub drops : {V : Type 0} (kind : Kind V) (f : Received) → Drops kind f
 unfolding drop-dead
 drops kind f n own mine cached entries a b = (
-    same-tokens (seen n own mine cached entries) (tokens-of (n .number) (living kind f mine) (living kind f cached)) (λ k l. cond (eqb l (f .sender)) (alive (deadline (showing kind f) (showing kind f .slots k)) (tokens-of (n .number) mine cached k l)) (tokens-of (n .number) mine cached k l)) (tokens-live (f .sender) (showing kind f) (n .number) mine cached (a .apart) (b .apart)),
-    record { each = each-keep by-pair _ (lives (f .sender) (showing kind f)) mine (a .each); apart = apart-keep by-pair (lives (f .sender) (showing kind f)) mine (a .apart) },
-    record { each = each-keep by-pair _ (lives (f .sender) (showing kind f)) cached (b .each); apart = apart-keep by-pair (lives (f .sender) (showing kind f)) cached (b .apart) })
+  same-tokens (seen n own mine cached entries) (tokens-of (n .number) (living kind f mine) (living kind f cached)) (λ k l. cond (eqb l (f .sender)) (alive (deadline (showing kind f) (showing kind f .slots k)) (tokens-of (n .number) mine cached k l)) (tokens-of (n .number) mine cached k l)) (tokens-live (f .sender) (showing kind f) (n .number) mine cached (a .apart) (b .apart)),
+  record { each = each-keep by-pair _ (lives (f .sender) (showing kind f)) mine (a .each); apart = apart-keep by-pair (lives (f .sender) (showing kind f)) mine (a .apart) },
+  record { each = each-keep by-pair _ (lives (f .sender) (showing kind f)) cached (b .each); apart = apart-keep by-pair (lives (f .sender) (showing kind f)) cached (b .apart) },
+)
