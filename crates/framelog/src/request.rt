@@ -14,11 +14,11 @@ KIND is the tally kind of the frames: vehicles, queues or movements.\n\
 Digits may be capital or small. A line with nothing on it is passed over, and\n\
 any other line that is not digits in pairs is named as no frame. The numbers\n\
 in front are the lines of each file, from 1.\n\n\
---summary  prints the summary alone: frames read, frames refused by condition,\n\
-           lines that were no hexadecimal, the highest clocks of each sender,\n\
-           and how many frames showed a token for each source and destination\n\
---help     prints this\n\n\
-The status is 1 if a file could not be read.\n";
+--summary prints the summary alone: frames read, frames refused by condition,\n\
+lines that were no hexadecimal, the highest clocks of each sender, and how many\n\
+frames showed a token for each source and destination. --help prints this.\n\n\
+A file that cannot be read is named, the others are still read, and the status\n\
+is then 1.\n";
 
 /// The tally kind of a log.
 #[derive(Clone, Copy)]
