@@ -1,4 +1,6 @@
 //! A tally told as a table: for each band its lengths, its count, its share and a bar.
+#![tactic(auto)]
+
 ghost use Rattle.std.specs.Prelude.{◌≡◌, ℕ, ◌+◌, ◌-◌, ◌*◌, ◌^◌, ◌<◌, ◌≤◌, min, sum, MatchOption};
 ghost use Rattle.bands.specs.Table.{tenths, Nearest, marks, span, bounds_of, Bound, Means, exact, total_count, Largest, TableOf, RowOf};
 

@@ -1,4 +1,6 @@
 //! Frames: the format, its reader and its writer.
+#![tactic(auto)]
+
 pub mod header;
 pub mod outgoing;
 pub mod reader;

@@ -1,4 +1,6 @@
 //! Reading and rewriting of frames as functions on bytes, for measurements from another language.
+#![tactic(auto)]
+
 use frame::outgoing::Outgoing;
 use frame::reader::{item_at, item_count, read};
 use frame::received::{Part, Received};

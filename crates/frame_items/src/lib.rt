@@ -1,4 +1,6 @@
 //! The items of a frame: slots, tokens and entries, each by itself and in lists.
+#![tactic(auto)]
+
 pub mod entries;
 pub mod item;
 pub mod rows;

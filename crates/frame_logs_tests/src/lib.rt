@@ -1,4 +1,6 @@
 //! Tests of lines of hexadecimal and of tallies in words.
+#![tactic(auto)]
+
 #[cfg(test)]
 mod tests {
     use frame_logs::line::Line;

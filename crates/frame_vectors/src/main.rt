@@ -1,4 +1,6 @@
 //! Judges the frames of the files in data/, and compares each verdict with the one that stands behind the frame.
+#![tactic(auto)]
+
 mod failure;
 mod verdict;
 

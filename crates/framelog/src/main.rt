@@ -1,4 +1,6 @@
 //! Prints an account of a log of frames, one frame in hexadecimal a line.
+#![tactic(auto)]
+
 mod account;
 mod conditions;
 mod failure;

@@ -1,4 +1,6 @@
 //! The rules of the handoff: what a node is, and how it takes in a frame.
+#![tactic(auto)]
+
 ghost use Rattle.handoff.specs.Eight.{EightCases};
 
 use tally::kind::Tally;

@@ -1,4 +1,6 @@
 //! Tests of the queue and the board.
+#![tactic(auto)]
+
 #[cfg(test)]
 mod board;
 #[cfg(test)]

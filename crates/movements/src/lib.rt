@@ -1,4 +1,6 @@
 //! The tally kind `movements`: counts by key, of which the sixteen smallest keys are kept.
+#![tactic(auto)]
+
 mod coding;
 pub mod fault;
 mod join;

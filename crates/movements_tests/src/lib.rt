@@ -1,4 +1,6 @@
 //! Tests of the tally kind `movements`.
+#![tactic(auto)]
+
 #[cfg(test)]
 mod tests {
     use movements::Movements;

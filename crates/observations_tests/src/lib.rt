@@ -1,4 +1,6 @@
 //! Examples of the library `observations`, worked by hand.
+#![tactic(auto)]
+
 #[cfg(test)]
 mod tests {
     use bands::{Bar, Bounds, Count, Share};

@@ -1,4 +1,6 @@
 //! What every layer of the collector shares: records, limits and refusals.
+#![tactic(auto)]
+
 pub mod keys;
 pub mod limits;
 pub mod records;

@@ -1,4 +1,6 @@
 //! Tallies observed queue lengths, one a line, and prints the account.
+#![tactic(auto)]
+
 mod account;
 mod intake;
 

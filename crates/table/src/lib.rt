@@ -1,4 +1,6 @@
 //! The keyed table: records under their keys, in a lent slice of places.
+#![tactic(auto)]
+
 mod above;
 mod cell;
 mod free;

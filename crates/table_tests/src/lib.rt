@@ -1,4 +1,6 @@
 //! Tests of the keyed table, over records of their own.
+#![tactic(auto)]
+
 pub mod coins;
 pub mod keys;
 pub mod memory;

@@ -1,4 +1,5 @@
 //! Tests of the kinds `vehicles` and `queues`, worked by hand.
+#![tactic(auto)]
 
 #[cfg(test)]
 mod tests {
