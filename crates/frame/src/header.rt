@@ -13,7 +13,7 @@ pub const EDITION: u8 = 1;
 
 // Length, edition and kind.
 fn opening_fault<K: Tally>(bytes: &[u8]) -> Option<FrameFault>
-    ensures { result ≡ opening_fault kind bytes.now }
+    ensures { result ≡ opening_fault K.kind bytes.now }
 {
     if bytes.len() < FRAME_BYTES_MIN || bytes.len() > FRAME_BYTES_MAX {
         return Some(FrameFault {
@@ -109,7 +109,7 @@ fn entries_allowed(tier: u8, count: u8) -> bool
 // The counts of the lists, and the length that they give.
 fn counts_fault<K: Tally>(bytes: &[u8]) -> Option<FrameFault>
     requires { 17 ≤ length bytes.now }
-    ensures { result ≡ counts_fault kind bytes.now }
+    ensures { result ≡ counts_fault K.kind bytes.now }
 {
     if bytes[14] > 15 {
         return Some(FrameFault {
@@ -140,7 +140,7 @@ fn counts_fault<K: Tally>(bytes: &[u8]) -> Option<FrameFault>
 
 /// The length of a frame with so many slots, tokens and entries.
 pub fn counted_length<K: Tally>(slots: u8, tokens: u8, entries: u8) -> usize
-    ensures { result ≡ 17 + slots * 9 + tokens * (10 + kind.width) + entries * (5 + kind.width) }
+    ensures { result ≡ 17 + slots * 9 + tokens * (10 + K.kind.width) + entries * (5 + K.kind.width) }
 {
     let width = K::width();
     17 + usize::from(slots) * 9
@@ -150,7 +150,7 @@ pub fn counted_length<K: Tally>(slots: u8, tokens: u8, entries: u8) -> usize
 
 /// The first condition that the header of a frame fails.
 pub fn header_fault<K: Tally>(bytes: &[u8]) -> Option<FrameFault>
-    ensures { result ≡ header_fault kind bytes.now }
+    ensures { result ≡ header_fault K.kind bytes.now }
 {
     if let Some(fault) = opening_fault::<K>(bytes) {
         return Some(fault);

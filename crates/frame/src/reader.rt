@@ -41,8 +41,8 @@ fn own_entry_fault<K: Tally>(
     tokens_place: usize,
     entries_place: usize,
 ) -> Option<FrameFault>
-    requires { Laid bytes.now tokens_place entries_place kind.width }
-    ensures { result ≡ own_entry_fault kind bytes.now }
+    requires { Laid bytes.now tokens_place entries_place K.kind.width }
+    ensures { result ≡ own_entry_fault K.kind bytes.now }
 {
     if bytes[3] != 0 || has_entry::<K>(bytes, entries_place, usize::from(bytes[16]), bytes[2]) {
         return None;
@@ -59,8 +59,8 @@ fn lists_fault<K: Tally>(
     tokens_place: usize,
     entries_place: usize,
 ) -> Option<FrameFault>
-    requires { Laid bytes.now tokens_place entries_place kind.width }
-    ensures { result ≡ lists_fault kind bytes.now }
+    requires { Laid bytes.now tokens_place entries_place K.kind.width }
+    ensures { result ≡ lists_fault K.kind bytes.now }
 {
     let sender = bytes[2];
     if let Some(fault) = row_fault::<SourceSlot>(bytes, sender, 17, usize::from(bytes[14])) {
@@ -85,8 +85,8 @@ struct Lists {
 }
 
 fn places<K: Tally>(bytes: &[u8]) -> Lists
-    requires { header_fault kind bytes.now ≡ None }
-    ensures { Laid bytes.now result.tokens result.entries kind.width }
+    requires { header_fault K.kind bytes.now ≡ None }
+    ensures { Laid bytes.now result.tokens result.entries K.kind.width }
 {
     let tokens = 17 + usize::from(bytes[14]) * 9;
     Lists {
@@ -97,8 +97,8 @@ fn places<K: Tally>(bytes: &[u8]) -> Lists
 
 // The fields and the parts of a frame.
 fn parts<'a, K: Tally>(bytes: &'a [u8], tokens_place: usize, entries_place: usize) -> Received<'a>
-    requires { Laid bytes.now tokens_place entries_place kind.width }
-    ensures { viewed kind result ≡ shown kind bytes.now }
+    requires { Laid bytes.now tokens_place entries_place K.kind.width }
+    ensures { viewed K.kind result ≡ shown K.kind bytes.now }
 {
     let end = bytes.len();
     Received {
@@ -125,8 +125,8 @@ fn parts<'a, K: Tally>(bytes: &'a [u8], tokens_place: usize, entries_place: usiz
 
 /// Judges received bytes: the first condition of a lawful frame that they fail, or the frame.
 pub fn read<'a, K: Tally>(bytes: &'a [u8]) -> Result<Received<'a>, FrameFault>
-    ensures judged { answered kind result ≡ judge kind bytes.now }
-    ensures exact { Exact kind }
+    ensures judged { answered K.kind result ≡ judge K.kind bytes.now }
+    ensures exact { Exact K.kind }
 {
     if let Some(fault) = header_fault::<K>(bytes) {
         return Err(fault);

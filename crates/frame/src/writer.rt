@@ -27,7 +27,7 @@ pub struct Header {
 impl Header {
     /// The header as bytes.
     pub fn bytes<K: Tally>(&self) -> [u8; 17]
-        ensures { result ≡ header_of kind self.now.sender self.now.tier self.now.addressee self.now.holds self.now.source_clock self.now.destination_clock self.now.slots self.now.tokens self.now.entries }
+        ensures { result ≡ header_of K.kind self.now.sender self.now.tier self.now.addressee self.now.holds self.now.source_clock self.now.destination_clock self.now.slots self.now.tokens self.now.entries }
     {
         let [s0, s1, s2, s3] = self.source_clock.to_be_bytes();
         let [d0, d1, d2, d3] = self.destination_clock.to_be_bytes();
@@ -56,9 +56,9 @@ impl Header {
 
 // Writes a header and the lists behind it, and answers the length of the frame.
 fn write_all<K: Tally>(header: &[u8; 17], frame: &Outgoing<'_, K>, out: &mut [u8]) -> usize
-    requires { 17 + length frame.now.slots.now * 9 + length frame.now.tokens.now * (10 + kind.width) + length frame.now.entries.now * (5 + kind.width) ≤ length out.old }
-    ensures place { result ≡ 17 + length frame.now.slots.now * 9 + length frame.now.tokens.now * (10 + kind.width) + length frame.now.entries.now * (5 + kind.width) }
-    ensures bytes { out.new ≡ (header.now ++ (row_bytes (slots 0) frame.now.slots.now ++ (row_bytes (tokens kind) frame.now.tokens.now ++ row_bytes (entries kind) frame.now.entries.now))) ++ drop result out.old }
+    requires { 17 + length frame.now.slots.now * 9 + length frame.now.tokens.now * (10 + K.kind.width) + length frame.now.entries.now * (5 + K.kind.width) ≤ length out.old }
+    ensures place { result ≡ 17 + length frame.now.slots.now * 9 + length frame.now.tokens.now * (10 + K.kind.width) + length frame.now.entries.now * (5 + K.kind.width) }
+    ensures bytes { out.new ≡ (header.now ++ (row_bytes (slots 0) frame.now.slots.now ++ (row_bytes (tokens K.kind) frame.now.tokens.now ++ row_bytes (entries K.kind) frame.now.entries.now))) ++ drop result out.old }
 {
     out[0..17].copy_from_slice(&header[0..17]);
     let tokens_place = write_row(frame.slots, out, 17);
@@ -68,8 +68,8 @@ fn write_all<K: Tally>(header: &[u8; 17], frame: &Outgoing<'_, K>, out: &mut [u8
 
 /// Writes a frame into the first bytes of a buffer and answers its length; the rest stays, and a refusal leaves all.
 pub fn write<K: Tally>(frame: &Outgoing<'_, K>, out: &mut [u8]) -> Result<usize, Unwritten>
-    ensures written { Written kind (carried frame.now) out.old out.new result }
-    ensures exact { Exact kind }
+    ensures written { Written K.kind (carried frame.now) out.old out.new result }
+    ensures exact { Exact K.kind }
 {
     let slots = frame.slots.len();
     let tokens = frame.tokens.len();

@@ -35,9 +35,9 @@ pub fn row_fault<I: Item>(
 
 /// Whether an entry of a number is among so many entries from a place on.
 pub fn has_entry<K: Tally>(bytes: &[u8], start: usize, count: usize, number: u8) -> bool
-    requires within { start + count * (5 + kind.width) ≤ length bytes.now }
+    requires within { start + count * (5 + K.kind.width) ≤ length bytes.now }
     requires long { length bytes.now ≤ frame_bytes_max }
-    ensures { result ≡ has_entry number (shown_row (entries kind) count (drop start bytes.now)) }
+    ensures { result ≡ has_entry number (shown_row (entries K.kind) count (drop start bytes.now)) }
 {
     let width = 5 + K::width();
     let mut at = start;

@@ -8,10 +8,10 @@ use tally::kind::Tally;
 
 // The fault of an item's tally, which begins so far behind the item's place in the frame.
 pub fn tally_fault<K: Tally>(item: &[u8], from: usize, place: usize) -> Option<FrameFault>
-    requires width { length item.now ≡ from + kind.width }
+    requires width { length item.now ≡ from + K.kind.width }
     requires within { place ≤ frame_bytes_max }
     requires header { from ≤ 10 }
-    ensures { result ≡ tally_fault kind (place + from) (drop from item.now) }
+    ensures { result ≡ tally_fault K.kind (place + from) (drop from item.now) }
 {
     match K::read(&item[from..]) {
         Ok(_) => None,
@@ -24,8 +24,8 @@ pub fn tally_fault<K: Tally>(item: &[u8], from: usize, place: usize) -> Option<F
 
 // The tally that an item shows; of unlawful bytes, the empty one.
 pub fn tally_shown<K: Tally>(item: &[u8], from: usize) -> K
-    requires { length item.now ≡ from + kind.width }
-    ensures { result ≡ tally_shown kind (drop from item.now) }
+    requires { length item.now ≡ from + K.kind.width }
+    ensures { result ≡ tally_shown K.kind (drop from item.now) }
 {
     match K::read(&item[from..]) {
         Ok(tally) => tally,
@@ -35,8 +35,8 @@ pub fn tally_shown<K: Tally>(item: &[u8], from: usize) -> K
 
 // Lends the end of an item to the tally's own writing; the bytes before it stay.
 pub fn write_tally<K: Tally>(tally: &K, item: &mut [u8], from: usize)
-    requires { length item.old ≡ from + kind.width }
-    ensures { item.new ≡ take from item.old ++ kind.bytes tally.now }
+    requires { length item.old ≡ from + K.kind.width }
+    ensures { item.new ≡ take from item.old ++ K.kind.bytes tally.now }
 {
     tally.write(&mut item[from..]);
 }

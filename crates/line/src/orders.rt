@@ -7,7 +7,7 @@ use crate::interface::Line;
 
 /// Carries what honesty alone gives every line: what it gives waited at the start or was put since.
 pub fn invents_nothing<L: Line>()
-    ensures { InventsNothing conduct }
+    ensures { InventsNothing L.conduct }
 {}
 
 /// Carries the order of the queue: first in, first out, and lost only at a wrong length or when eight wait.

@@ -32,7 +32,7 @@ impl Slots {
 /// Drops the slot for the sender of a frame, if it is outdated.
 pub fn drop_slot<K: Tally>(node: &mut Node, frame: &Received<'_>)
     requires { IsNumber frame.now.sender }
-    ensures rule { Slotted (drop_slot frame.now.sender (showing kind frame.now)) node.old node.new }
+    ensures rule { Slotted (drop_slot frame.now.sender (showing K.kind frame.now)) node.old node.new }
     ensures clocks { (node.new.source_clock ≡ node.old.source_clock) × (node.new.destination_clock ≡ node.old.destination_clock) }
 {
     let Some(slot) = node.slots.get(frame.sender) else {
@@ -47,7 +47,7 @@ pub fn drop_slot<K: Tally>(node: &mut Node, frame: &Received<'_>)
 pub fn make_slot<K: Tally>(node: &mut Node, frame: &Received<'_>)
     requires sender { IsNumber frame.now.sender }
     requires limit { node.old.destination_clock < clock_max }
-    ensures rule { Slotted (make_slot frame.now.sender (showing kind frame.now)) node.old node.new }
+    ensures rule { Slotted (make_slot frame.now.sender (showing K.kind frame.now)) node.old node.new }
     ensures clock { node.new.source_clock ≡ node.old.source_clock }
 {
     if node.tier >= frame.tier {

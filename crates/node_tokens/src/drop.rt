@@ -11,7 +11,7 @@ use tally::kind::Tally;
 
 // What is left of a place: nothing where it holds a token that the frame shows to be dead.
 fn left<K: Tally>(cell: Option<Token<K>>, frame: &Received<'_>) -> Option<Token<K>>
-    ensures { result ≡ keep (lives frame.now.sender (showing kind frame.now)) cell }
+    ensures { result ≡ keep (lives frame.now.sender (showing K.kind frame.now)) cell }
 {
     let Some(token) = cell else {
         return None;
@@ -29,8 +29,8 @@ fn left<K: Tally>(cell: Option<Token<K>>, frame: &Received<'_>) -> Option<Token<
 
 /// Drops the tokens that a frame shows to be dead, own or cached.
 pub fn drop_dead<K: Tally>(cells: &mut [Option<Token<K>>], frame: &Received<'_>)
-    ensures cells { cells.new ≡ living kind frame.now cells.old }
-    ensures rule { Drops kind frame.now }
+    ensures cells { cells.new ≡ living K.kind frame.now cells.old }
+    ensures rule { Drops K.kind frame.now }
 {
     for i in 0..cells.len() {
         let cell = cells[i];

@@ -6,7 +6,7 @@ use crate::records::Record;
 
 // Whether a key is above the last one; where there is none, every key is.
 fn is_above<R: Record>(key: &R::Key, last: &Option<R::Key>) -> bool
-    ensures { result ≡ above keyed last.now key.now }
+    ensures { result ≡ above R.keyed last.now key.now }
 {
     match last {
         Some(last) => R::before(last, key),
@@ -16,7 +16,7 @@ fn is_above<R: Record>(key: &R::Key, last: &Option<R::Key>) -> bool
 
 // Whether a key is below the best one so far; where there is none, every key is.
 fn is_below<R: Record>(key: &R::Key, best: &Option<R::Key>) -> bool
-    ensures { result ≡ below keyed best.now key.now }
+    ensures { result ≡ below R.keyed best.now key.now }
 {
     match best {
         Some(best) => R::before(key, best),
@@ -30,7 +30,7 @@ fn nearer_key<R: Record>(
     best: Option<R::Key>,
     cell: &Option<R>,
 ) -> Option<R::Key>
-    ensures { result ≡ nearer keyed last.now best cell.now }
+    ensures { result ≡ nearer R.keyed last.now best cell.now }
 {
     let Some(record) = cell else {
         return best;
@@ -44,7 +44,7 @@ fn nearer_key<R: Record>(
 
 // The least key above the last one.
 pub(crate) fn least_above<R: Record>(cells: &[Option<R>], last: Option<R::Key>) -> Option<R::Key>
-    ensures { result ≡ least_above keyed cells.now last }
+    ensures { result ≡ least_above R.keyed cells.now last }
 {
     let mut best = None;
     for cell in cells {

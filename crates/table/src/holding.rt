@@ -6,7 +6,7 @@ use crate::records::Record;
 
 // Whether a cell holds a record with the key.
 fn holds<R: Record>(cell: &Option<R>, key: &R::Key) -> bool
-    ensures { result ≡ has keyed key.now cell.now }
+    ensures { result ≡ has R.keyed key.now cell.now }
 {
     match cell {
         Some(record) => record.has(key),
@@ -16,7 +16,7 @@ fn holds<R: Record>(cell: &Option<R>, key: &R::Key) -> bool
 
 // The place of the first cell that holds the key.
 pub(crate) fn first_holding<R: Record>(cells: &[Option<R>], key: &R::Key) -> Option<usize>
-    ensures { FirstAt (has keyed key.now) cells.now result }
+    ensures { FirstAt (has R.keyed key.now) cells.now result }
 {
     for place in 0..cells.len() {
         if holds(&cells[place], key) {

@@ -26,7 +26,7 @@ impl<'a, R: Record> Table<'a, R> {
 
     /// The place of the key: the first that has it.
     pub fn find(&self, key: &R::Key) -> Option<usize>
-        ensures is { result ≡ place_of keyed self.now.cells.now key.now }
+        ensures is { result ≡ place_of R.keyed self.now.cells.now key.now }
         ensures within { IfSome result (λ i. i < length self.now.cells.now) }
     {
         first_holding(self.cells, key)
@@ -42,9 +42,9 @@ impl<'a, R: Record> Table<'a, R> {
 
     /// The place of the key, else the first free one; none exactly where there is neither.
     pub fn seek(&self, key: &R::Key) -> Option<usize>
-        ensures is { result ≡ sought keyed self.now.cells.now key.now }
+        ensures is { result ≡ sought R.keyed self.now.cells.now key.now }
         ensures within { IfSome result (λ i. i < length self.now.cells.now) }
-        ensures takes { MatchOption result ((place_of keyed self.now.cells.now key.now ≡ None) × (first_free self.now.cells.now ≡ None)) (λ i. Takes keyed self.now.cells.now key.now i) }
+        ensures takes { MatchOption result ((place_of R.keyed self.now.cells.now key.now ≡ None) × (first_free self.now.cells.now ≡ None)) (λ i. Takes R.keyed self.now.cells.now key.now i) }
     {
         match self.find(key) {
             Some(place) => Some(place),
@@ -54,7 +54,7 @@ impl<'a, R: Record> Table<'a, R> {
 
     /// The record under a key.
     pub fn get(&self, key: &R::Key) -> Option<R>
-        ensures { result ≡ under keyed self.now.cells.now key.now }
+        ensures { result ≡ under R.keyed self.now.cells.now key.now }
     {
         match self.find(key) {
             Some(place) => self.at(place),
@@ -64,7 +64,7 @@ impl<'a, R: Record> Table<'a, R> {
 
     /// The place of the least key above the last one, or of the least of all where there is no last one.
     pub fn next_above(&self, last: Option<R::Key>) -> Option<usize>
-        ensures next { NextAbove keyed self.now.cells.now last result }
+        ensures next { NextAbove R.keyed self.now.cells.now last result }
         ensures within { IfSome result (λ i. i < length self.now.cells.now) }
     {
         match least_above(self.cells, last) {
@@ -77,7 +77,7 @@ impl<'a, R: Record> Table<'a, R> {
     pub fn store(&mut self, place: usize, record: R)
         requires { place < length self.old.cells.now }
         ensures cells { self.new.cells.now ≡ slice_set self.old.cells.now place (Some «record») }
-        ensures keys { Takes keyed self.old.cells.now (keyed.key «record») place → Written keyed self.old.cells.now self.new.cells.now (keyed.key «record») (Some «record») }
+        ensures keys { Takes R.keyed self.old.cells.now (R.keyed.key «record») place → Written R.keyed self.old.cells.now self.new.cells.now (R.keyed.key «record») (Some «record») }
         ensures long { length self.new.cells.now ≡ length self.old.cells.now }
         ensures same { self.new.cells.ghost_name ≡ self.old.cells.ghost_name }
     {
@@ -88,7 +88,7 @@ impl<'a, R: Record> Table<'a, R> {
     pub fn remove(&mut self, place: usize)
         requires { place < length self.old.cells.now }
         ensures cells { self.new.cells.now ≡ slice_set self.old.cells.now place None }
-        ensures keys { Emptied keyed self.old.cells.now self.new.cells.now place }
+        ensures keys { Emptied R.keyed self.old.cells.now self.new.cells.now place }
         ensures long { length self.new.cells.now ≡ length self.old.cells.now }
         ensures same { self.new.cells.ghost_name ≡ self.old.cells.ghost_name }
     {
@@ -98,7 +98,7 @@ impl<'a, R: Record> Table<'a, R> {
     /// Empties every place.
     pub fn clear(&mut self)
         ensures cells { self.new.cells.now ≡ replicate (length self.old.cells.now) None }
-        ensures keys { Blank keyed self.new.cells.now }
+        ensures keys { Blank R.keyed self.new.cells.now }
         ensures long { length self.new.cells.now ≡ length self.old.cells.now }
         ensures same { self.new.cells.ghost_name ≡ self.old.cells.ghost_name }
     {
@@ -109,7 +109,7 @@ impl<'a, R: Record> Table<'a, R> {
     pub fn free_places(&self) -> usize
         ensures is { result ≡ free_in self.now.cells.now }
         ensures rest { result + filled self.now.cells.now ≡ length self.now.cells.now }
-        ensures keys { UsedKeys keyed self.now.cells.now (filled self.now.cells.now) }
+        ensures keys { UsedKeys R.keyed self.now.cells.now (filled self.now.cells.now) }
     {
         let mut count = 0;
         for cell in self.cells.iter() {

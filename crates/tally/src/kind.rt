@@ -50,7 +50,7 @@ pub trait Tally: Copy {
 
 /// All tallies as one; of none, empty.
 pub fn joined_all<K: Tally>(tallies: &[K]) -> K
-    ensures { result ≡ joins kind tallies.now }
+    ensures { result ≡ joins K.kind tallies.now }
 {
     let mut total = K::empty();
     for tally in tallies {
@@ -61,6 +61,6 @@ pub fn joined_all<K: Tally>(tallies: &[K]) -> K
 
 /// Carries what the laws alone give every kind: no order and no grouping changes a total, and each tally has a writing of its own.
 pub fn kind_stands<K: Tally>()
-    ensures total { Total kind }
-    ensures writing { OneWriting kind }
+    ensures total { Total K.kind }
+    ensures writing { OneWriting K.kind }
 {}
