@@ -7,5 +7,5 @@ pub returns : goal.returns
 returns g c =
     let keyed = g.R.Record.keyed in
     let n = length c.args.self.now.cells.now in
-    let e : c.empty-all.new.cells ≡ replicate n None = all_free c.empty-all.new.cells n c.empty-all.auto.cells c.empty-all.ensures in
-    record { cells = e; keys = subst (Blank keyed) (sym e) (blank keyed n); long = c.empty-all.auto.cells; same = refl }
+    let e : c.empty_all.new.cells ≡ replicate n None = all_free c.empty_all.new.cells n c.empty_all.auto.cells c.empty_all.ensures in
+    record { cells = e; keys = subst (Blank keyed) (sym e) (blank keyed n); long = c.empty_all.auto.cells; same = refl }

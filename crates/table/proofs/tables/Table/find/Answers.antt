@@ -6,6 +6,6 @@ pub returns : goal.returns
 returns g c =
     let test = has g.R.Record.keyed c.args.key.now in
     record {
-      is = first_is test c.args.self.now.cells.now c.first-holding.result c.first-holding.ensures;
-      within = first_at_within test c.args.self.now.cells.now c.first-holding.result c.first-holding.ensures;
+      is = first_is test c.args.self.now.cells.now c.first_holding.result c.first_holding.ensures;
+      within = first_at_within test c.args.self.now.cells.now c.first_holding.result c.first_holding.ensures;
     }

@@ -6,7 +6,7 @@ use Rattle.table.proofs.tables.Table.free_places.Goals as goal
 pub loop-cell-preserved : goal.loop-cell-preserved
 loop-cell-preserved g c =
     let more = free_more c.args.self.now.cells.now c.loop-cell.cell-index c.cell-item.result c.loop-cell-test.true c.cell-item.is in
-    (omega (arith, c.one-if-free-count.ensures, c.loop-cell.invariant.0), omega (arith, c.one-if-free-count.ensures, spare_most c.cell-item.result))
+    (omega (arith, c.one_if_free-count.ensures, c.loop-cell.invariant.0), omega (arith, c.one_if_free-count.ensures, spare_most c.cell-item.result))
 
 pub returns : goal.returns
 returns g c =

@@ -9,8 +9,8 @@ returns g c =
     let keyed = g.R.Record.keyed in
     let cells = c.args.self.now.cells.now in
     record {
-      cells = c.empty-cell.ensures;
-      keys = subst (λ z. Emptied keyed cells z c.args.place) (sym c.empty-cell.ensures) (emptied keyed cells c.args.place);
-      long = ap length c.empty-cell.ensures ∙ length-set cells c.args.place None;
+      cells = c.empty_cell.ensures;
+      keys = subst (λ z. Emptied keyed cells z c.args.place) (sym c.empty_cell.ensures) (emptied keyed cells c.args.place);
+      long = ap length c.empty_cell.ensures ∙ length-set cells c.args.place None;
       same = refl;
     }

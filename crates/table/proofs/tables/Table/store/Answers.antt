@@ -10,8 +10,8 @@ returns g c =
     let cells = c.args.self.now.cells.now in
     let r = c.args.record in
     record {
-      cells = c.fill-cell.ensures;
-      keys = λ t. subst (λ z. Written keyed cells z (keyed.key r) (Some r)) (sym c.fill-cell.ensures) (stored keyed cells c.args.place r t);
-      long = ap length c.fill-cell.ensures ∙ length-set cells c.args.place (Some r);
+      cells = c.fill_cell.ensures;
+      keys = λ t. subst (λ z. Written keyed cells z (keyed.key r) (Some r)) (sym c.fill_cell.ensures) (stored keyed cells c.args.place r t);
+      long = ap length c.fill_cell.ensures ∙ length-set cells c.args.place (Some r);
       same = refl;
     }
