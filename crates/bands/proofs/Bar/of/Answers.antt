@@ -4,7 +4,7 @@ use Rattle.bands.proofs.Bar.of.Goals as goal
 
 pub returns : goal.returns
 returns c = record {
-  value = c.marks-of.ensures;
-  some = λ h. omega (arith, c.marks-of.ensures, marks_some c.args.count c.args.largest h);
-  within = omega (arith, c.marks-of.ensures, marks_within c.args.count c.args.largest);
+  value = c.marks_of.ensures;
+  some = λ h. omega (arith, c.marks_of.ensures, marks_some c.args.count c.args.largest h);
+  within = omega (arith, c.marks_of.ensures, marks_within c.args.count c.args.largest);
 }

@@ -5,6 +5,6 @@ use Rattle.bands.proofs.Share.of.Goals as goal
 
 pub returns : goal.returns
 returns c = record {
-  value = c.tenths-of.ensures;
-  nearest = subst (Nearest c.args.part c.args.whole) (sym c.tenths-of.ensures) (nearest c.args.part c.args.whole);
+  value = c.tenths_of.ensures;
+  nearest = subst (Nearest c.args.part c.args.whole) (sym c.tenths_of.ensures) (nearest c.args.part c.args.whole);
 }

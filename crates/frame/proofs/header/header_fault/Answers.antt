@@ -6,14 +6,14 @@ pub returns-in-Some : goal.returns-in-Some
 unfolding header_fault
 returns-in-Some g c = by_first (opening_fault g.K.Tally.kind c.args.bytes.now) (parties_fault c.args.bytes.now) (state_fault c.args.bytes.now) (counts_fault g.K.Tally.kind c.args.bytes.now) c.in-Some.fault c.in-Some.ensures
 
-pub returns-in-Some-parties-fault : goal.returns-in-Some-parties-fault
+pub returns-in-Some-parties_fault : goal.returns-in-Some-parties_fault
 unfolding header_fault
-returns-in-Some-parties-fault g c = by_second (opening_fault g.K.Tally.kind c.args.bytes.now) (parties_fault c.args.bytes.now) (state_fault c.args.bytes.now) (counts_fault g.K.Tally.kind c.args.bytes.now) c.in-Some-parties-fault.fault c.in-default.ensures c.in-Some-parties-fault.ensures
+returns-in-Some-parties_fault g c = by_second (opening_fault g.K.Tally.kind c.args.bytes.now) (parties_fault c.args.bytes.now) (state_fault c.args.bytes.now) (counts_fault g.K.Tally.kind c.args.bytes.now) c.in-Some-parties_fault.fault c.in-default.ensures c.in-Some-parties_fault.ensures
 
-pub returns-in-Some-state-fault : goal.returns-in-Some-state-fault
+pub returns-in-Some-state_fault : goal.returns-in-Some-state_fault
 unfolding header_fault
-returns-in-Some-state-fault g c = by_third (opening_fault g.K.Tally.kind c.args.bytes.now) (parties_fault c.args.bytes.now) (state_fault c.args.bytes.now) (counts_fault g.K.Tally.kind c.args.bytes.now) c.in-Some-state-fault.fault c.in-default.ensures c.in-default-parties-fault.ensures c.in-Some-state-fault.ensures
+returns-in-Some-state_fault g c = by_third (opening_fault g.K.Tally.kind c.args.bytes.now) (parties_fault c.args.bytes.now) (state_fault c.args.bytes.now) (counts_fault g.K.Tally.kind c.args.bytes.now) c.in-Some-state_fault.fault c.in-default.ensures c.in-default-parties_fault.ensures c.in-Some-state_fault.ensures
 
 pub returns : goal.returns
 unfolding header_fault
-returns g c = by_last (opening_fault g.K.Tally.kind c.args.bytes.now) (parties_fault c.args.bytes.now) (state_fault c.args.bytes.now) (counts_fault g.K.Tally.kind c.args.bytes.now) c.counts_fault.result c.in-default.ensures c.in-default-parties-fault.ensures c.in-default-state-fault.ensures c.counts_fault.ensures
+returns g c = by_last (opening_fault g.K.Tally.kind c.args.bytes.now) (parties_fault c.args.bytes.now) (state_fault c.args.bytes.now) (counts_fault g.K.Tally.kind c.args.bytes.now) c.counts_fault.result c.in-default.ensures c.in-default-parties_fault.ensures c.in-default-state_fault.ensures c.counts_fault.ensures

@@ -10,14 +10,14 @@ returns-in-Some g c =
     let b = c.args.bytes.now in
     record { judged = ap (λ o. verdict kind (or_else o (lists_fault kind b)) (shown kind b)) c.in-Some.ensures; exact = exact kind g.K.Tally.laws }
 
-pub returns-in-Some-lists-fault : goal.returns-in-Some-lists-fault
-returns-in-Some-lists-fault g c =
+pub returns-in-Some-lists_fault : goal.returns-in-Some-lists_fault
+returns-in-Some-lists_fault g c =
     let kind = g.K.Tally.kind in
     let b = c.args.bytes.now in
-    record { judged = ap₂ (λ o p. verdict kind (or_else o p) (shown kind b)) c.in-default.ensures c.in-Some-lists-fault.ensures; exact = exact kind g.K.Tally.laws }
+    record { judged = ap₂ (λ o p. verdict kind (or_else o p) (shown kind b)) c.in-default.ensures c.in-Some-lists_fault.ensures; exact = exact kind g.K.Tally.laws }
 
 pub returns : goal.returns
 returns g c =
     let kind = g.K.Tally.kind in
     let b = c.args.bytes.now in
-    record { judged = ap (verdict kind None) c.parts.ensures ∙ ap₂ (λ o p. verdict kind (or_else o p) (shown kind b)) c.in-default.ensures c.in-default-lists-fault.ensures; exact = exact kind g.K.Tally.laws }
+    record { judged = ap (verdict kind None) c.parts.ensures ∙ ap₂ (λ o p. verdict kind (or_else o p) (shown kind b)) c.in-default.ensures c.in-default-lists_fault.ensures; exact = exact kind g.K.Tally.laws }

@@ -9,12 +9,12 @@ use Rattle.frame.proofs.writer.write.Goals as goal
 pub returns-then-slots-gt15 : goal.returns-then-slots-gt15
 returns-then-slots-gt15 g c = record { written = (λ few. omega (arith, few.slots, few.tokens, few.entries, c.then-slots-gt15.either), refl); exact = exact g.K.Tally.kind g.K.Tally.laws }
 
-pub returns-then-out-counted-length : goal.returns-then-out-counted-length
-returns-then-out-counted-length g c =
+pub returns-then-out-counted_length : goal.returns-then-out-counted_length
+returns-then-out-counted_length g c =
     let kind = g.K.Tally.kind in
     let laws = g.K.Tally.laws in
     record {
-      written = (record { slots = c.if-slots-gt15.false; tokens = c.if-tokens-gt8.false; entries = c.if-entries-gt4.false }, omega (arith, length_of_frame kind laws (carried c.args.frame.now), c.counted_length.ensures, c.if-out-counted-length.true), refl);
+      written = (record { slots = c.if-slots-gt15.false; tokens = c.if-tokens-gt8.false; entries = c.if-entries-gt4.false }, omega (arith, length_of_frame kind laws (carried c.args.frame.now), c.counted_length.ensures, c.if-out-counted_length.true), refl);
       exact = exact kind laws;
     }
 

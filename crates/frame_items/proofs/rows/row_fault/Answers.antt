@@ -5,11 +5,11 @@ use Rattle.frame_items.proofs.rows.row_fault.Goals as goal
 pub loop-item-init : goal.loop-item-init
 loop-item-init g c = begun (g.I-as-Item.format c.args.sender) c.args.bytes.now c.args.start c.args.count c.requires.within
 
-pub overflow-add-bytes-of-item : goal.overflow-add-bytes-of-item
-overflow-add-bytes-of-item g c = omega (arith, fits _ _ _ _ _ _ _ c.loop-item.invariant c.loop-item-test.true c.width-width.result (c.width-width.ensures c.args.sender), c.requires.long)
+pub overflow-add-bytes_of_item : goal.overflow-add-bytes_of_item
+overflow-add-bytes_of_item g c = omega (arith, fits _ _ _ _ _ _ _ c.loop-item.invariant c.loop-item-test.true c.width-width.result (c.width-width.ensures c.args.sender), c.requires.long)
 
-pub slice-bounds-bytes-of-item-end : goal.slice-bounds-bytes-of-item-end
-slice-bounds-bytes-of-item-end g c = fits _ _ _ _ _ _ _ c.loop-item.invariant c.loop-item-test.true c.width-width.result (c.width-width.ensures c.args.sender)
+pub slice-bounds-bytes_of_item-end : goal.slice-bounds-bytes_of_item-end
+slice-bounds-bytes_of_item-end g c = fits _ _ _ _ _ _ _ c.loop-item.invariant c.loop-item-test.true c.width-width.result (c.width-width.ensures c.args.sender)
 
 pub fault-requires : goal.fault-requires
 fault-requires g c = record { width = part_long _ _ _ _ _ _ _ c.loop-item.invariant c.loop-item-test.true c.width-width.result (c.width-width.ensures c.args.sender); within = omega (arith, fits _ _ _ _ _ _ _ c.loop-item.invariant c.loop-item-test.true c.width-width.result (c.width-width.ensures c.args.sender), c.requires.long) }

@@ -8,7 +8,7 @@ pub returns-in-default : goal.returns-in-default
 returns-in-default c =
     let b = c.args.slots.now.bytes.now in
     let n : length (row_of (slots 0) b) ≡ length b / 9 = length_shown (slots 0) (length b / 9) b in
-    absurd (nth_within (row_of (slots 0) b) c.loop-index.index c.in-default.ensures (omega (arith, c.item-count-count.ensures)))
+    absurd (nth_within (row_of (slots 0) b) c.loop-index.index c.in-default.ensures (omega (arith, c.item_count-count.ensures)))
 
 pub returns-then-item-source : goal.returns-then-item-source
 returns-then-item-source c =
@@ -22,4 +22,4 @@ pub returns : goal.returns
 returns c =
     let b = c.args.slots.now.bytes.now in
     let n : length (row_of (slots 0) b) ≡ length b / 9 = length_shown (slots 0) (length b / 9) b in
-    slot_past (row_of (slots 0) b) c.loop-index.index c.args.source c.loop-index.invariant (omega (arith, c.item-count-count.ensures))
+    slot_past (row_of (slots 0) b) c.loop-index.index c.args.source c.loop-index.invariant (omega (arith, c.item_count-count.ensures))

@@ -3,7 +3,7 @@ use Rattle.observations.proofs.source.Source.take.Goals as goal
 
 pub returns-then-byte-eq-NEWLINE : goal.returns-then-byte-eq-NEWLINE
 returns-then-byte-eq-NEWLINE c = λ text h.
-    let l = c.end-line.ensures h.lines h.rest in
+    let l = c.end_line.ensures h.lines h.rest in
     let e = c.if-byte-eq-NEWLINE.true in
     (read_newline text _ _ _ _ e h l, answered_newline text _ _ _ _ e h l)
 

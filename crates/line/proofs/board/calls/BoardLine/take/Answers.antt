@@ -7,7 +7,7 @@ pub returns : goal.returns
 returns c =
     let board = c.args.self.now in
     let turn = c.in-Some.ensures.turn in
-    let copy = c.copy-from-size.ensures in
+    let copy = c.copy_from-size.ensures in
     record {
       long = search rules;
       within = search rules;

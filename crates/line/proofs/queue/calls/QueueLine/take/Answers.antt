@@ -6,11 +6,11 @@ use Rattle.line.proofs.queue.calls.QueueLine.take.Goals as goal
 pub returns : goal.returns
 returns c =
     let q = c.args.self.now in
-    let copy = c.copy-from-size.ensures in
-    let freed : Freed q c.free-oldest.new.self = record { places = c.free-oldest.ensures.places; first = c.free-oldest.ensures.first; count = c.free-oldest.ensures.count } in
+    let copy = c.copy_from-size.ensures in
+    let freed : Freed q c.free_oldest.new.self = record { places = c.free_oldest.ensures.places; first = c.free_oldest.ensures.first; count = c.free_oldest.ensures.count } in
     record {
       long = search rules;
       within = search rules;
-      taken = (ap Some copy.copied ∙ oldest_given q (search rules), oldest_freed q c.free-oldest.new.self (search rules) freed);
+      taken = (ap Some copy.copied ∙ oldest_given q (search rules), oldest_freed q c.free_oldest.new.self (search rules) freed);
       rest_kept = copy.rest_kept;
     }

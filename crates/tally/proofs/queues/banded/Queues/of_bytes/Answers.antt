@@ -11,4 +11,4 @@ loop-band-preserved c = (
 )
 
 pub returns : goal.returns
-returns c = c.of.ensures.only (written_in c.args.bytes.now) (λ k h. omega (arith, c.loop-band.invariant.1 k (omega arith), four_small c.args.bytes.now (4 * k) (λ i. (c.ok.bytes i).fits)))
+returns c = c.of.ensures.only (written_in c.args.bytes.now) (λ k h. omega (arith, c.loop-band.invariant.1 k (omega arith), four_small c.args.bytes.now (4 * k) (λ i. (c.type_inv.bytes i).fits)))
