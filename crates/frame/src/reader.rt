@@ -17,14 +17,14 @@ use tally::kind::Tally;
 
 /// How many items a part has.
 pub fn item_count<I: Item>(part: &Part<'_>) -> usize
-    ensures { result ≡ length part.now.bytes.now / (format 0).width }
+    ensures { result ≡ length part.now.bytes.now / (I.format 0).width }
 {
     part.bytes.len() / I::width()
 }
 
 /// The item at an index of a part, if there is one.
 pub fn item_at<I: Item>(part: &Part<'_>, index: usize) -> Option<I>
-    ensures { result ≡ slice_get (row_of (format 0) part.now.bytes.now) index }
+    ensures { result ≡ slice_get (row_of (I.format 0) part.now.bytes.now) index }
 {
     let bytes = part.bytes;
     let width = I::width();

@@ -15,9 +15,9 @@ pub fn row_fault<I: Item>(
     start: usize,
     count: usize,
 ) -> Option<FrameFault>
-    requires within { start + count * (format sender).width ≤ length bytes.now }
+    requires within { start + count * (I.format sender).width ≤ length bytes.now }
     requires long { length bytes.now ≤ frame_bytes_max }
-    ensures { result ≡ row_fault (format sender) count 0 start (drop start bytes.now) }
+    ensures { result ≡ row_fault (I.format sender) count 0 start (drop start bytes.now) }
 {
     let width = I::width();
     let mut before = 0;
@@ -52,9 +52,9 @@ pub fn has_entry<K: Tally>(bytes: &[u8], start: usize, count: usize, number: u8)
 
 /// Writes items one after another from a place on, and answers the place behind them.
 pub fn write_row<I: Item>(items: &[I], out: &mut [u8], start: usize) -> usize
-    requires { start + length items.now * (format 0).width ≤ length out.old }
-    ensures place { result ≡ start + length items.now * (format 0).width }
-    ensures bytes { out.new ≡ (take start out.old ++ row_bytes (format 0) items.now) ++ drop result out.old }
+    requires { start + length items.now * (I.format 0).width ≤ length out.old }
+    ensures place { result ≡ start + length items.now * (I.format 0).width }
+    ensures bytes { out.new ≡ (take start out.old ++ row_bytes (I.format 0) items.now) ++ drop result out.old }
 {
     let width = I::width();
     let mut at = start;

@@ -14,10 +14,10 @@ pub returns-in-Some-lists_fault : goal.returns-in-Some-lists_fault
 returns-in-Some-lists_fault g c =
     let kind = g.K.Tally.kind in
     let b = c.args.bytes.now in
-    record { judged = ap₂ (λ o p. verdict kind (or_else o p) (shown kind b)) c.in-default.ensures c.in-Some-lists_fault.ensures; exact = exact kind g.K.Tally.laws }
+    record { judged = ap₂ (λ o p. verdict kind (or_else o p) (shown kind b)) c.in_default.ensures c.in-Some-lists_fault.ensures; exact = exact kind g.K.Tally.laws }
 
 pub returns : goal.returns
 returns g c =
     let kind = g.K.Tally.kind in
     let b = c.args.bytes.now in
-    record { judged = ap (verdict kind None) c.parts.ensures ∙ ap₂ (λ o p. verdict kind (or_else o p) (shown kind b)) c.in-default.ensures c.in-default-lists_fault.ensures; exact = exact kind g.K.Tally.laws }
+    record { judged = ap (verdict kind None) c.parts.ensures ∙ ap₂ (λ o p. verdict kind (or_else o p) (shown kind b)) c.in_default.ensures c.in_default-lists_fault.ensures; exact = exact kind g.K.Tally.laws }

@@ -3,8 +3,8 @@ use Rattle.std.proofs.lemmas.List.{take_rest}
 use Rattle.frame_items.specs.Items.{fault_of}
 use Rattle.frame_items.proofs.tallies.tally_fault.Goals as goal
 
-pub overflow-add-result-in-Err : goal.overflow-add-result-in-Err
-overflow-add-result-in-Err g c =
+pub overflow_add-result-in-Err : goal.overflow_add-result-in-Err
+overflow_add-result-in-Err g c =
     let item = c.args.item.now in
     let kind = g.K.Tally.kind in
     let laws = g.K.Tally.laws in

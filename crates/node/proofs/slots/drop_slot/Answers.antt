@@ -4,8 +4,8 @@ use Rattle.handoff.specs.Taking.{current}
 use Rattle.node.proofs.Slotting.{drops_to, drops_none}
 use Rattle.node.proofs.slots.drop_slot.Goals as goal
 
-pub returns-in-default : goal.returns-in-default
-returns-in-default g c = record { rule = drops_none g.K.Tally.kind c.args.frame.now c.args.node.now (ap (current _) (sym c.in-default.ensures) ∙ c.in-default.ensures); clocks = (refl, refl) }
+pub returns-in_default : goal.returns-in_default
+returns-in_default g c = record { rule = drops_none g.K.Tally.kind c.args.frame.now c.args.node.now (ap (current _) (sym c.in_default.ensures) ∙ c.in_default.ensures); clocks = (refl, refl) }
 
 pub returns-then-slot-frame : goal.returns-then-slot-frame
 returns-then-slot-frame g c = record { rule = drops_to g.K.Tally.kind c.args.frame.now c.args.node.now _ None refl (ap (current _) (sym c.in-Some.ensures) ∙ cond-true _ None (Some c.in-Some.slot) (lt-ltb _ _ c.if-slot-frame.true)) c.put.ensures; clocks = (refl, refl) }

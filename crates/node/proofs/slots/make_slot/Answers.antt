@@ -14,4 +14,4 @@ pub returns-in-Some : goal.returns-in-Some
 returns-in-Some g c = record { rule = not_asked g.K.Tally.kind c.args.frame.now c.args.node.now (and_right (ltb c.args.node.now.tier c.args.frame.now.tier) _ (and_right c.args.frame.now.holds _ (ap is_none (sym c.in-Some.ensures)))); clock = refl }
 
 pub returns : goal.returns
-returns g c = record { rule = asks g.K.Tally.kind c.args.frame.now c.args.node.now _ (and_from _ _ (lt-ltb _ _ c.if-node-frame.false) (and_from _ _ c.if-not-frame.false (ap is_none (sym c.in-default.ensures)))) refl c.put.ensures; clock = refl }
+returns g c = record { rule = asks g.K.Tally.kind c.args.frame.now c.args.node.now _ (and_from _ _ (lt-ltb _ _ c.if-node-frame.false) (and_from _ _ c.if-not-frame.false (ap is_none (sym c.in_default.ensures)))) refl c.put.ensures; clock = refl }

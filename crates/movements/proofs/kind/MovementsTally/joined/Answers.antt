@@ -32,8 +32,8 @@ done c =
     ended _ _ _ _ _ _ c.loop-left.invariant
     (over c.args.self.now.pairs c.args.other.now.pairs c.loop-left.i c.loop-left.j _ _ _ c.pair-left.ensures c.pair-right.ensures c.least-next.ensures c.if-next-eq0.true)
 
-pub invariant-of-result : goal.invariant-of-result
-invariant-of-result c = let d = done (goal.at.invariant-of-result c).Then-next-eq0 in lawful_as (join c.args.self.now c.args.other.now) _ _ d.0 d.1
+pub invariant_of-result : goal.invariant_of-result
+invariant_of-result c = let d = done (goal.at.invariant_of-result c).Then-next-eq0 in let k = lawful_as (join c.args.self.now c.args.other.now) _ _ d.0 d.1 in record { full = k.0; small = k.1; faultless = k.2; fits = k.3 }
 
 pub returns-then-next-eq0 : goal.returns-then-next-eq0
 returns-then-next-eq0 c = let d = done (goal.at.returns-then-next-eq0 c).Then-next-eq0 in movements_same _ _ d.0 d.1
