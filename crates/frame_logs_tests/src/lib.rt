@@ -35,7 +35,7 @@ mod tests {
         let Ok(bytes) = line.bytes() else {
             return Err(Fail::new("the line is not decoded"));
         };
-        assert!(rt; bytes == [0, 0xaf, 0x9c]);
+        assert!(rt; bytes == [0, 0xaf, 0x9c].as_slice());
         refused(&rt, b"00a", NoHexadecimal::OddDigits)?;
         refused(&rt, b"0g:", NoHexadecimal::NoDigit(b'g'))?;
         refused(&rt, b"00\r\r", NoHexadecimal::NoDigit(b'\r'))
