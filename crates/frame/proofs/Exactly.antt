@@ -1,17 +1,14 @@
 -- Bytes are accepted exactly when a lawful frame is written so.
-use Rattle.std.proofs.Common.{◌≡◌, ℕ, zero, suc, ◌+◌, ◌-◌, ◌*◌, ◌/◌, ◌%◌, ◌^◌, ◌<◌, ◌≤◌, Bool, true, false, cond, not, ◌&&◌, ◌||◌, eqb, ltb, leb, ◌⊎◌, List, [], ◌∷◌, ◌++◌, length, get_or, take, drop, Some, None, Ok, Err, Option, Result, sym, refl, ap, ◌∙◌, subst, ap₂, inl, inr, ⊎_elim, append-nil, mul-le-mul, arith, lit<, length-append, length-drop}
-use Rattle.std.proofs.lemmas.List.{take_at, drop_at, take_all, drop-drop, drop_more, take-append-drop}
-use Rattle.std.proofs.lemmas.Bool.{le-leb, lt-ltb, eq-eqb, ne_eqb, leb-true, eqb-true, eqb-false, and_parts, and_from, not-true, not_from_false, not_from_true, cond_both, cond-true, cond-false, cases_eq, or_cases, or_left, or_right}
-use Rattle.big_endian.specs.BigEndian.{Octets, four, four_bytes, four_of_bytes, octets_cons, octets_append, octets_four, octets_nil, octets_drop}
+use Rattle.std.proofs.Common.{◌≡◌, ℕ, ◌+◌, ◌*◌, ◌/◌, ◌%◌, ◌<◌, ◌≤◌, Bool, true, false, cond, not, ◌&&◌, ◌||◌, eqb, leb, List, [], ◌∷◌, ◌++◌, length, get_or, take, drop, Some, None, Ok, Option, sym, refl, ap, ◌∙◌, subst, ap₂, ⊎_elim, append-nil, mul-le-mul, arith, lit<, length-append, length-drop}
+use Rattle.std.proofs.lemmas.List.{drop_at, take_all, drop-drop, drop_more, take-append-drop}
+use Rattle.std.proofs.lemmas.Bool.{le-leb, eq-eqb, ne_eqb, leb-true, eqb-true, eqb-false, and_parts, and_from, not-true, not_from_false, cond-true, cond-false, cases_eq, or_cases, or_left, or_right}
+use Rattle.big_endian.specs.BigEndian.{Octets, four, four_of_bytes, octets_cons, octets_append, octets_nil, octets_drop}
 use Rattle.tally.specs.Kind.{Kind, Lawful}
-use Rattle.protocol.specs.Limits.{nodes_max, tier_max, clock_max, frame_bytes_min, frame_bytes_max}
-use Rattle.protocol.specs.declared.records.SourceSlot.{SourceSlot}
-use Rattle.protocol.specs.declared.records.Token.{Token}
-use Rattle.protocol.specs.declared.records.Entry.{Entry}
+use Rattle.protocol.specs.Limits.{tier_max, clock_max, frame_bytes_min, frame_bytes_max}
 use Rattle.protocol.specs.declared.refusal.Condition.TheVariants as condition
 use Rattle.protocol.specs.declared.refusal.FrameFault.{FrameFault}
-use Rattle.frame_items.specs.Format.{Format, or_else, parts_none, Row, row_bytes, shown_row, row_fault, length_row, octets_row, row_back, row_passes, row_only, length_shown}
-use Rattle.frame_items.specs.Items.{Number, number, unless, unless_none, unless_passes, within_limit, has_entry, slots, tokens, entries, slots_sound, tokens_sound, entries_sound, number_true, true_number, number_fits, clock_fits, four_front}
+use Rattle.frame_items.specs.Format.{or_else, parts_none, Row, row_bytes, shown_row, row_fault, length_row, octets_row, row_back, row_passes, row_only, length_shown}
+use Rattle.frame_items.specs.Items.{Number, number, unless_none, unless_passes, within_limit, has_entry, slots, tokens, entries, slots_sound, tokens_sound, entries_sound, number_true, true_number, number_fits, clock_fits, four_front}
 use Rattle.frame.specs.Frames.{Frame, LawfulFrame, Exact, entries_allowed, header_bytes, frame_bytes, tokens_place, entries_place, counted_length, slots_shown, tokens_shown, entries_shown, shown, opening_fault, parties_fault, state_fault, counts_fault, header_fault, own_entry_fault, lists_fault, frame_fault, verdict, judge}
 
 none_then : (first later : Option FrameFault) → first ≡ None → later ≡ None → or_else first later ≡ None

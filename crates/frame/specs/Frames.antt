@@ -1,15 +1,14 @@
 -- The frame: what it carries, when it is lawful, its writing as bytes, and the judgement of any bytes.
-use Rattle.std.specs.Prelude.{◌≡◌, ℕ, zero, suc, ◌+◌, ◌-◌, ◌*◌, ◌^◌, ◌<◌, ◌≤◌, Bool, true, false, cond, not, ◌&&◌, ◌||◌, ◌⊎◌, List, [], ◌∷◌, ◌++◌, length, drop, Some, None, Ok, Err, Option, Result, ◌==◌, nat_le, slice_index, refl}
-use Rattle.std.proofs.Common.{sym, ap, ap₂, subst, ◌∙◌, inl, inr, ⊎_elim, arith, lit<}
+use Rattle.std.specs.Prelude.{◌≡◌, ℕ, ◌+◌, ◌*◌, ◌≤◌, Bool, true, cond, not, ◌&&◌, ◌||◌, List, [], ◌∷◌, ◌++◌, length, drop, Some, None, Ok, Err, Option, Result, ◌==◌, nat_le, slice_index}
 use Rattle.big_endian.specs.BigEndian.{Octets, four, four_bytes}
-use Rattle.tally.specs.Kind.{Kind, Lawful}
-use Rattle.protocol.specs.Limits.{nodes_max, tier_max, clock_max, frame_bytes_min, frame_bytes_max}
+use Rattle.tally.specs.Kind.{Kind}
+use Rattle.protocol.specs.Limits.{tier_max, clock_max, frame_bytes_min, frame_bytes_max}
 use Rattle.protocol.specs.declared.records.SourceSlot.{SourceSlot}
 use Rattle.protocol.specs.declared.records.Token.{Token}
 use Rattle.protocol.specs.declared.records.Entry.{Entry}
 use Rattle.protocol.specs.declared.refusal.Condition.TheVariants as condition
 use Rattle.protocol.specs.declared.refusal.FrameFault.{FrameFault}
-use Rattle.frame_items.specs.Format.{Format, or_else, Row, row_bytes, shown_row, row_fault}
+use Rattle.frame_items.specs.Format.{or_else, Row, row_bytes, shown_row, row_fault}
 use Rattle.frame_items.specs.Items.{Number, number, unless, within_limit, has_entry, slots, tokens, entries}
 
 -- what a frame carries

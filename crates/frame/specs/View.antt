@@ -1,5 +1,5 @@
 -- The frame that the reader hands out.
-use Rattle.std.specs.Prelude.{ℕ, List, Ok, Err, Result}
+use Rattle.std.specs.Prelude.{Ok, Err, Result}
 use Rattle.tally.specs.Kind.{Kind}
 use Rattle.protocol.specs.declared.refusal.FrameFault.{FrameFault}
 use Rattle.frame_items.specs.Format.{row_of}

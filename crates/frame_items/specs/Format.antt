@@ -1,7 +1,7 @@
 -- Items in a row of bytes: each in so many bytes, rising by rank. Reading a row and writing it are each other's inverse wherever that holds of one item.
 use Rattle.std.specs.Prelude.{◌≡◌, ℕ, zero, suc, ◌+◌, ◌*◌, ◌/◌, ◌<◌, ◌≤◌, List, [], ◌∷◌, ◌++◌, length, take, drop, Some, None, Option}
 use Rattle.std.proofs.Math.Path.{refl, sym, ap, ap₂}
-use Rattle.std.proofs.Common.{subst, ◌∙◌, zero-mul, arith, length-append, length-take, take-add}
+use Rattle.std.proofs.Common.{◌∙◌, zero-mul, arith, length-append, take-add}
 use mathlib.Core.List.{append_assoc}
 use Rattle.std.proofs.Math.Nat.{add-mul}
 use Rattle.std.proofs.Math.ListN.{length-drop}

@@ -1,15 +1,14 @@
 -- The items of a frame: slots, tokens and entries.
-use Rattle.std.specs.Prelude.{◌≡◌, ℕ, zero, suc, ◌+◌, ◌-◌, ◌*◌, ◌^◌, ◌<◌, ◌≤◌, Bool, true, false, cond, not, ◌&&◌, ◌||◌, List, [], ◌∷◌, ◌++◌, length, drop, Some, None, Ok, Err, Option, Result, ◌==◌, nat_le, nat_lt, slice_index, slice_index_or}
+use Rattle.std.specs.Prelude.{◌≡◌, ℕ, ◌+◌, ◌*◌, ◌^◌, ◌<◌, ◌≤◌, Bool, true, false, cond, not, ◌&&◌, ◌||◌, List, [], ◌∷◌, ◌++◌, length, drop, Some, None, Ok, Err, Option, Result, ◌==◌, nat_le, nat_lt, slice_index, slice_index_or}
 use Rattle.std.proofs.Math.Path.{refl}
-use Rattle.std.proofs.Common.{sym, ap, ap₂, subst, ◌∙◌, ⊎_elim, append-nil, arith, lit<, length-append}
+use Rattle.std.proofs.Common.{sym, ap, ap₂, ◌∙◌, append-nil, arith}
 use Rattle.std.proofs.Math.ListN.{length-drop}
 use Rattle.std.proofs.lemmas.List.{take-append-drop, drop-drop, drop_all}
-use Rattle.std.proofs.lemmas.Bool.{le-leb, lt-ltb, ne_eqb, leb-true, ltb-true, eqb-false, and_parts, and_from, not-true, not_from_false, true≢false}
-use Rattle.big_endian.specs.BigEndian.{Octets, four, four_bytes, four_of_bytes, bytes_of_four, four_drop, octets_four, octets_cons, octets_append, octets_take, octets_drop}
+use Rattle.std.proofs.lemmas.Bool.{le-leb, lt-ltb, ne_eqb, leb-true, ltb-true, eqb-false, and_parts, and_from, not-true, not_from_false}
+use Rattle.big_endian.specs.BigEndian.{Octets, four, four_bytes, four_of_bytes, bytes_of_four, octets_four, octets_cons, octets_append, octets_drop}
 use Rattle.tally.specs.Kind.{Kind, Lawful}
 use Rattle.tally.specs.declared.fault.Fault.{Fault}
 use Rattle.protocol.specs.Limits.{nodes_max, clock_max}
-use Rattle.protocol.specs.declared.records.Slot.{Slot}
 use Rattle.protocol.specs.declared.records.SourceSlot.{SourceSlot}
 use Rattle.protocol.specs.declared.records.Token.{Token}
 use Rattle.protocol.specs.declared.records.Entry.{Entry}

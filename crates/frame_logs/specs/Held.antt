@@ -1,5 +1,5 @@
 -- The text that a reader of digits has taken.
-use Rattle.std.specs.Prelude.{◌≡◌, ℕ, List, [], take}
+use Rattle.std.specs.Prelude.{◌≡◌, ℕ, List, take}
 use Rattle.frame_logs.specs.declared.digits.Digits.{Digits}
 use Rattle.frame_logs.specs.Steps.{Seen, start, after}
 

@@ -1,5 +1,5 @@
 -- What each line adds to a summary.
-use Rattle.std.specs.Prelude.{ℕ, ◌+◌, ◌*◌, cond, ◌&&◌, List, replicate, None, nat_le}
+use Rattle.std.specs.Prelude.{ℕ, ◌+◌, ◌*◌, cond, ◌&&◌, replicate, None, nat_le}
 use Rattle.frame_logs.specs.declared.counts.Clocks.{Clocks}
 use Rattle.frame_logs.specs.declared.summary.Summary.{Summary}
 use Rattle.frame_logs.specs.Counts.{stop, one_more, raised}

@@ -1,8 +1,8 @@
 -- The eight cases hold.
-use Rattle.std.proofs.Common.{◌≡◌, ℕ, ◌<◌, cond, eqb, Some, None, sym, refl, ap, ◌∙◌, ap₂, arith, lit<, lit≤}
+use Rattle.std.proofs.Common.{◌≡◌, ℕ, cond, eqb, Some, None, refl, ap, ◌∙◌, ap₂, arith}
 use Rattle.std.proofs.lemmas.Bool.{eq-eqb, le-ltb, lt-ltb, cond-true}
 use Rattle.tally.specs.Vehicles.{same}
-use Rattle.tally.specs.Queues.{LastBand, band_is_last, band_of, up_to, one_in}
+use Rattle.tally.specs.Queues.{band_is_last, band_of, up_to}
 use Rattle.movements.specs.Sample.{sample}
 use Rattle.protocol.specs.declared.records.Token.{Token}
 use Rattle.handoff.specs.Node.{Node, View}

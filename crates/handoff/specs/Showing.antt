@@ -1,5 +1,5 @@
 -- What a lawful frame shows, by number: its lists as tables.
-use Rattle.std.specs.Prelude.{ℕ, Bool, cond, ◌&&◌, List, [], ◌∷◌, Some, None, Option, ◌==◌}
+use Rattle.std.specs.Prelude.{ℕ, cond, ◌&&◌, List, [], ◌∷◌, Some, None, Option, ◌==◌}
 use Rattle.protocol.specs.declared.records.Slot.{Slot}
 use Rattle.protocol.specs.declared.records.SourceSlot.{SourceSlot}
 use Rattle.protocol.specs.declared.records.Token.{Token}

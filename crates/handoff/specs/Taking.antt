@@ -1,5 +1,5 @@
 -- Taking in a frame: node i takes in what a frame of sender j shows, in seven steps.
-use Rattle.std.specs.Prelude.{ℕ, zero, suc, ◌+◌, Bool, true, false, cond, ◌&&◌, Some, None, Option, ◌==◌, nat_lt}
+use Rattle.std.specs.Prelude.{ℕ, suc, Bool, false, cond, ◌&&◌, Some, None, Option, ◌==◌, nat_lt}
 use Rattle.tally.specs.Kind.{Kind}
 use Rattle.protocol.specs.declared.records.Slot.{Slot}
 use Rattle.protocol.specs.declared.records.Token.{Token}

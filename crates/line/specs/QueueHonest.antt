@@ -1,12 +1,11 @@
 -- The queue is honest.
-use Rattle.std.specs.Prelude.{◌≡◌, ℕ, zero, suc, Bool, true, false, cond, ◌⊎◌, List, [], ◌∷◌, ◌++◌, length, Some, Option, slice_index_or}
+use Rattle.std.specs.Prelude.{◌≡◌, ℕ, zero, suc, Bool, true, false, cond, ◌⊎◌, List, [], ◌∷◌, ◌++◌, length, Some, slice_index_or}
 use Rattle.std.proofs.Common.{sym, subst, inl, inr, ⊎_elim, arith}
 use Rattle.line.specs.Frames.{Frame, Sized, In}
 use Rattle.line.specs.Conduct.{Honest}
 use Rattle.line.specs.Held.{blank, held_sized}
 use Rattle.line.specs.Queue.{queue_line, queued, around, next_place, oldest, without_oldest, accepts}
 use Rattle.line.specs.declared.held.Held.{Held}
-use Rattle.line.specs.declared.queue.Queue.{Queue}
 
 around_sized : (places : List Held) (at n : ℕ) (frame : Frame) → In frame (around places at n) → Sized frame
 around_sized places at zero frame h = absurd h

@@ -4,7 +4,7 @@ use Rattle.std.proofs.Common.{sym, ap, ap₂, subst, ◌∙◌, inl, inr, ⊎_el
 use Rattle.std.proofs.lemmas.Bool.{lt-ltb, cases_Bool, cases_order}
 use Rattle.movements.specs.declared.pair.Pair.{Pair}
 use Rattle.movements.specs.declared.kept.Movements.{Movements}
-use Rattle.movements.specs.Pairs.{stop, unused, both, total, spilled}
+use Rattle.movements.specs.Pairs.{stop, unused, total, spilled}
 use Rattle.movements.specs.Merging.{Rising, Merge, none, only, left, right, same, merges, count_at, at_merged, at_low, at_head, at_tail}
 use Rattle.movements.specs.Join.{uses, join, all_pairs, all_rise, uses_join}
 

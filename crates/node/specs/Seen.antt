@@ -1,9 +1,8 @@
 -- A node and the places of its tallies, and a received frame, as the rules see them.
-use Rattle.std.specs.Prelude.{◌≡◌, ℕ, ◌≤◌, Bool, cond, List, ◌∷◌, Some, None, Option, ◌==◌, ◌≢◌, slice_index_or}
+use Rattle.std.specs.Prelude.{◌≡◌, ℕ, ◌≤◌, cond, List, ◌∷◌, None, Option, ◌==◌, ◌≢◌, slice_index_or}
 use Rattle.tally.specs.Kind.{Kind}
 use Rattle.table.specs.Cells.{under, Apart, Each}
 use Rattle.protocol.specs.Keys.{pair, by_pair}
-use Rattle.protocol.specs.declared.records.Slot.{Slot}
 use Rattle.protocol.specs.declared.records.Token.{Token}
 use Rattle.protocol.specs.declared.records.Entry.{Entry}
 use Rattle.frame.specs.View.{viewed}

@@ -1,22 +1,20 @@
 -- Dropping dead tokens is the rule.
-use Rattle.std.proofs.Common.{◌≡◌, ℕ, zero, suc, ◌+◌, ◌<◌, ◌≤◌, Bool, true, false, cond, not, ◌&&◌, eqb, ltb, List, [], ◌∷◌, ◌++◌, map, length, get_or, take, drop, set, Some, None, Option, sym, refl, ap, ◌∙◌, ap₂, ⊎_elim, append-nil, arith, take_all}
+use Rattle.std.proofs.Common.{◌≡◌, ℕ, ◌+◌, ◌<◌, ◌≤◌, Bool, true, false, cond, not, ◌&&◌, eqb, ltb, List, ◌++◌, map, length, get_or, take, drop, set, Some, None, Option, refl, ap, ◌∙◌, ap₂, ⊎_elim, append-nil, take_all}
 use mathlib.Core.Path.{fun_ext}
 use Rattle.std.proofs.lemmas.List.{drop_all}
 use Rattle.std.proofs.lemmas.List.Edits.{map_over_more}
-use Rattle.std.proofs.lemmas.Bool.{cases_eq, eq-eqb, ne_eqb, cases_Bool}
+use Rattle.std.proofs.lemmas.Bool.{cases_Bool}
 use Rattle.tally.specs.Kind.{Kind}
 use Rattle.handoff.specs.Node.{View, Node as Rule}
 use Rattle.handoff.specs.Taking.{deadline, alive, drop_dead, with_tokens}
 use Rattle.protocol.specs.Keys.{pair, by_pair}
 use Rattle.protocol.specs.declared.records.Pair.{Pair}
 use Rattle.protocol.specs.declared.records.Token.{Token}
-use Rattle.protocol.specs.declared.records.Entry.{Entry}
 use Rattle.table.specs.Cells.{under, keep, Apart}
 use Rattle.table.proofs.Rows.{under_key, under_keep, apart_keep, each_keep}
-use Rattle.node.specs.Seen.{seen, showing, tokens_of, Own, Cached}
+use Rattle.node.specs.Seen.{seen, showing, tokens_of}
 use Rattle.node_tokens.specs.Dropping.{lives, living, Drops}
 use Rattle.frame.specs.declared.received.Received.{Received}
-use Rattle.node.specs.declared.numbers.Node.{Node}
 
 module _ {V : Type 0} (j : ℕ) (m : View V) where
   -- a filter of one token is the rule at its key

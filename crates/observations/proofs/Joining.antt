@@ -1,5 +1,5 @@
 -- The figures of lines, and of more lines, by the laws of a tally kind alone. Assumes nothing.
-use Rattle.std.proofs.Common.{◌≡◌, ℕ, ◌+◌, ◌^◌, ◌<◌, min, List, [], ◌∷◌, ◌++◌, map, length, Ok, Err, Result, sym, refl, ap, ◌∙◌, ap₂, arith, length-append}
+use Rattle.std.proofs.Common.{◌≡◌, ℕ, List, [], ◌∷◌, ◌++◌, map, length, Ok, Err, Result, sym, refl, ap, ◌∙◌, ap₂, arith, length-append}
 use Rattle.std.proofs.lemmas.List.{map-append}
 use Rattle.tally.specs.Kind.{Kind, Lawful, joins}
 use Rattle.tally.specs.Queues.{queues, queues_lawful, observed_queue}
@@ -7,7 +7,7 @@ use Rattle.tally.specs.declared.queues.banded.Queues.{Queues}
 use Rattle.observations.specs.declared.line.LineFault.{LineFault}
 use Rattle.observations.specs.declared.figures.Figures.{Figures}
 use Rattle.observations.specs.Line.{Says}
-use Rattle.observations.specs.Figures.{stopped, Answers, lengths, faults, Counts, Observed, Refused, Together}
+use Rattle.observations.specs.Figures.{Answers, lengths, faults, Counts, Observed, Refused, Together}
 
 module _ {V : Type 0} {kind : Kind V} (laws : Lawful kind) where
   pub right_unit : (x : V) → kind.join x kind.empty ≡ x

@@ -1,5 +1,5 @@
 -- One byte more of a source, and its end. Assumes nothing.
-use Rattle.std.proofs.Common.{◌≡◌, ℕ, ◌+◌, true, false, List, [], ◌∷◌, ◌++◌, length, Some, None, Option, sym, refl, ap, ◌∙◌, subst, append_assoc, append-nil, arith}
+use Rattle.std.proofs.Common.{◌≡◌, ℕ, true, false, List, [], ◌∷◌, ◌++◌, length, None, Option, sym, refl, ap, ◌∙◌, subst, append_assoc, append-nil}
 use Rattle.std.specs.List.{flat_map, AllByRecursion as All}
 use Rattle.std.proofs.lemmas.List.{flat_map_more, length_push}
 use Rattle.std.proofs.ByRecursion.{All-push}
@@ -8,7 +8,7 @@ use Rattle.observations.specs.declared.source.RefusedLine.{RefusedLine}
 use Rattle.observations.specs.declared.source.Source.{Source}
 use Rattle.observations.specs.Reader.{Has}
 use Rattle.observations.specs.Figures.{stopped, Counts}
-use Rattle.observations.specs.Source.{Plain, with_newline, Cut, some_byte, SoFar, Told, Answered, Kept, LineEnded, last_line, Finished}
+use Rattle.observations.specs.Source.{Plain, with_newline, Cut, some_byte, SoFar, Answered, Kept, LineEnded, last_line, Finished}
 
 cut_byte : (text : List ℕ) (lines : List (List ℕ)) (rest : List ℕ) (b : ℕ) → Plain b → Cut text lines rest → Cut (text ++ b ∷ []) lines (rest ++ b ∷ [])
 cut_byte text lines rest b plain c = record {

@@ -1,5 +1,5 @@
 -- What the reader of a line knows after some of its bytes. Assumes nothing.
-use Rattle.std.specs.Prelude.{◌≡◌, ℕ, ◌+◌, ◌-◌, ◌*◌, ◌^◌, ◌<◌, cond, List, [], ◌∷◌, ◌++◌, length, Ok, Err, Result, nat_lt}
+use Rattle.std.specs.Prelude.{◌≡◌, ℕ, ◌+◌, ◌-◌, ◌*◌, ◌^◌, ◌<◌, cond, List, [], ◌++◌, length, Ok, Err, Result, nat_lt}
 use Rattle.std.specs.List.{AllByRecursion as All}
 use Rattle.observations.specs.declared.line.LineFault.{LineFault}
 use Rattle.observations.specs.declared.line.LineFault.TheVariants.{NotANumber, TooLarge}

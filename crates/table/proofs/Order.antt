@@ -2,7 +2,7 @@
 use Rattle.std.proofs.Common.{◌≡◌, ℕ, zero, suc, ◌+◌, ◌<◌, ◌≤◌, true, false, cond, ◌&&◌, ◌⊎◌, List, [], ◌∷◌, length, get_or, drop, Some, None, Option, sym, refl, ap, ◌∙◌, subst, inl, inr, ⊎_elim, arith}
 use Rattle.std.proofs.lemmas.List.{at_drop_more, at_drop_all}
 use Rattle.std.proofs.lemmas.Bool.{cases_Bool, both_ways, and_parts, and_cases, true≢false, cond_both}
-use Rattle.table.specs.Cells.{Keyed, under, has, place_of}
+use Rattle.table.specs.Cells.{Keyed, under, place_of}
 use Rattle.table.specs.Order.{above, below, nearer, nearest, least_above, HasNext, NextAbove, left_above}
 use Rattle.table.proofs.First.{none_some}
 use Rattle.table.proofs.Rows.{under_nil, under_past, under_here, under_key, alike_off, cases_key, place_none, place_at}

@@ -1,6 +1,6 @@
 -- The kind `vehicles`: one count, whose join adds and stops at 2 ^ 64 - 1.
-use Rattle.std.specs.Prelude.{◌≡◌, ℕ, ◌+◌, ◌-◌, ◌^◌, ◌<◌, ◌≤◌, min, Ok, Err, ◌==◌, refl}
-use Rattle.std.proofs.Common.{ap, sym, ◌∙◌, arith, lit<, lit≤}
+use Rattle.std.specs.Prelude.{◌≡◌, ℕ, ◌+◌, ◌-◌, ◌^◌, ◌<◌, min, Ok, ◌==◌, refl}
+use Rattle.std.proofs.Common.{ap, ◌∙◌, arith, lit<, lit≤}
 use mathlib.Core.HLevel.{is_prop→PathP}
 use Rattle.std.proofs.Math.Bridge.{le_prop}
 use Rattle.std.proofs.lemmas.Bool.{eqb-true}

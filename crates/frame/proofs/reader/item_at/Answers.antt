@@ -1,4 +1,4 @@
-use Rattle.std.proofs.Common.{◌/◌, ◌≤◌, length, sym, ap, ◌∙◌, arith}
+use Rattle.std.proofs.Common.{◌/◌, length, ap, arith}
 use Rattle.frame_items.proofs.Walking.{nth_none, item_fits, item_shown}
 use Rattle.frame.proofs.reader.item_at.Goals as goal
 

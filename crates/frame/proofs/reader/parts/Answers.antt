@@ -1,4 +1,4 @@
-use Rattle.std.proofs.Common.{◌≡◌, ◌+◌, ◌-◌, length, get_or, take, drop, sym, refl, ap, ◌∙◌, arith}
+use Rattle.std.proofs.Common.{◌≡◌, length, get_or, drop, refl, ap, ◌∙◌, arith}
 use Rattle.frame_items.specs.Format.{shown_row}
 use Rattle.frame_items.specs.Items.{slots, tokens, entries}
 use Rattle.frame.specs.Frames.{entries_place, shown}

@@ -1,4 +1,4 @@
-use Rattle.std.proofs.Common.{◌+◌, ◌*◌, ap, ap₂, arith}
+use Rattle.std.proofs.Common.{◌+◌, ◌*◌, ap₂, arith}
 use Rattle.frame.proofs.Exactly.{fine_header}
 use Rattle.frame.proofs.reader.places.Goals as goal
 

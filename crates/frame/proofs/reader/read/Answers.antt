@@ -1,6 +1,6 @@
-use Rattle.std.proofs.Common.{Some, None, sym, ap, ◌∙◌, ap₂}
+use Rattle.std.proofs.Common.{None, ap, ◌∙◌, ap₂}
 use Rattle.frame_items.specs.Format.{or_else}
-use Rattle.frame.specs.Frames.{header_fault, lists_fault, shown, verdict}
+use Rattle.frame.specs.Frames.{lists_fault, shown, verdict}
 use Rattle.frame.proofs.Exactly.{exact}
 use Rattle.frame.proofs.reader.read.Goals as goal
 

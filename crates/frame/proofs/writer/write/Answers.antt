@@ -1,8 +1,8 @@
-use Rattle.std.proofs.Common.{◌≡◌, ◌+◌, ◌*◌, ◌++◌, length, drop, sym, refl, ap, ◌∙◌, arith}
+use Rattle.std.proofs.Common.{◌++◌, drop, sym, refl, ap, ◌∙◌, arith}
 use Rattle.frame_items.specs.Format.{row_bytes}
 use Rattle.frame_items.specs.Items.{slots, tokens, entries}
 use Rattle.frame.specs.Frames.{frame_bytes}
-use Rattle.frame.specs.Written.{Few, carried}
+use Rattle.frame.specs.Written.{carried}
 use Rattle.frame.proofs.Exactly.{exact, length_of_frame}
 use Rattle.frame.proofs.writer.write.Goals as goal
 

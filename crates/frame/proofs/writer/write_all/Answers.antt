@@ -1,8 +1,8 @@
-use Rattle.std.proofs.Common.{◌≡◌, ◌+◌, ◌*◌, ◌≤◌, ◌++◌, length, drop, sym, ap, ◌∙◌, append_assoc, arith, length-append, rules}
+use Rattle.std.proofs.Common.{◌≡◌, ◌+◌, ◌*◌, ◌++◌, length, drop, ap, ◌∙◌, append_assoc, arith, length-append, rules}
 use borrow.Rule.Slice.PartMut.{put_mid}
 use Rattle.std.proofs.lemmas.List.{take_all}
 use Rattle.frame_items.specs.Format.{row_bytes, length_row}
-use Rattle.frame_items.specs.Items.{slots, tokens, entries, slots_sound, tokens_sound, entries_sound}
+use Rattle.frame_items.specs.Items.{slots, tokens, entries, slots_sound, tokens_sound}
 use Rattle.frame_items.proofs.Writing.{row_after}
 use Rattle.frame.proofs.writer.write_all.Goals as goal
 

@@ -1,4 +1,4 @@
-use Rattle.std.proofs.Common.{◌≡◌, suc, ◌+◌, ◌-◌, ◌*◌, length, drop, sym, ap, ◌∙◌, arith}
+use Rattle.std.proofs.Common.{◌≡◌, ◌+◌, ◌-◌, length, drop, sym, ap, ◌∙◌, arith}
 use Rattle.frame_items.proofs.Walking.{found_in, found_here, found_later, found_last, one_item_less}
 use Rattle.frame_items.proofs.rows.has_entry.Goals as goal
 

@@ -1,4 +1,4 @@
-use Rattle.std.proofs.Common.{◌≡◌, ◌+◌, length, drop, sym, ap, ◌∙◌, subst, arith}
+use Rattle.std.proofs.Common.{◌+◌, sym, ap, ◌∙◌, subst, arith}
 use Rattle.frame_items.proofs.Walking.{Going, begun, fits, part_is, part_long, passed, stopped, ended}
 use Rattle.frame_items.proofs.rows.row_fault.Goals as goal
 

@@ -1,4 +1,4 @@
-use Rattle.std.proofs.Common.{◌≡◌, ltb, sym, refl, ap, ◌∙◌}
+use Rattle.std.proofs.Common.{ltb, sym, refl, ap}
 use Rattle.std.proofs.lemmas.Bool.{lt-ltb, le-ltb, and_left, and_right, and_from}
 use Rattle.handoff.specs.Node.{is_none}
 use Rattle.node.proofs.Slotting.{not_asked, asks}

@@ -1,4 +1,4 @@
-use Rattle.std.proofs.Common.{◌≡◌, ◌/◌, length, sym, ◌∙◌, arith}
+use Rattle.std.proofs.Common.{◌≡◌, ◌/◌, length, arith}
 use Rattle.frame_items.specs.Format.{row_of, length_shown}
 use Rattle.frame_items.specs.Items.{slots}
 use Rattle.node_tokens.proofs.Looking.{nth_within, slot_found, slot_more, slot_past}

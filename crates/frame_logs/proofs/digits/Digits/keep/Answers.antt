@@ -1,6 +1,4 @@
-use Rattle.std.proofs.Common.{◌≡◌, ◌<◌, ◌≤◌, ap, arith}
-use Rattle.frame_logs.specs.Steps.{Seen}
-use Rattle.frame_logs.specs.declared.standing.Standing.TheVariants.{Paired}
+use Rattle.std.proofs.Common.{arith}
 use Rattle.frame_logs.proofs.Kept.{paired, kept_more, kept_still}
 use Rattle.frame_logs.proofs.digits.Digits.keep.Goals as goal
 
