@@ -8,6 +8,7 @@ use failure::Failure;
 use frame_logs::line::Line;
 use movements::Movements;
 use std::fs;
+use std::process::ExitCode;
 use tally::kind::Tally;
 use tally::queues::Queues;
 use tally::vehicles::Vehicles;
@@ -78,10 +79,12 @@ fn run(rt: &HostRuntime) -> Result<(), Failure> {
     compare_file::<Movements>(rt, "lengths.frames")
 }
 
-fn main(rt: HostRuntime) -> Result<(), Failure> {
-    let done = run(&rt);
-    if let Err(failure) = &done {
-        let _ = eprintln!(rt; "frame_vectors: {failure}");
+fn main(rt: HostRuntime) -> ExitCode {
+    match run(&rt) {
+        Ok(()) => ExitCode::SUCCESS,
+        Err(failure) => {
+            let _ = eprintln!(rt; "frame_vectors: {failure}");
+            ExitCode::FAILURE
+        },
     }
-    done
 }

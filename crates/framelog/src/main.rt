@@ -14,6 +14,7 @@ use frame_logs::tallies::Told;
 use movements::Movements;
 use request::{HELP, Kind, Request};
 use scan::Scan;
+use std::process::ExitCode;
 use std::{env, fs};
 use tally::kind::Tally;
 use tally::queues::Queues;
@@ -72,10 +73,12 @@ fn run(rt: &HostRuntime) -> Result<(), Failure> {
     }
 }
 
-fn main(rt: HostRuntime) -> Result<(), Failure> {
-    let done = run(&rt);
-    if let Err(failure) = &done {
-        let _ = eprintln!(rt; "framelog: {failure}");
+fn main(rt: HostRuntime) -> ExitCode {
+    match run(&rt) {
+        Ok(()) => ExitCode::SUCCESS,
+        Err(failure) => {
+            let _ = eprintln!(rt; "framelog: {failure}");
+            ExitCode::FAILURE
+        },
     }
-    done
 }

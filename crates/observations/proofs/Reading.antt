@@ -1,6 +1,6 @@
 -- One byte more of a source, and its end. Assumes nothing.
 use Rattle.std.proofs.Common.{◌≡◌, ℕ, true, false, List, [], ◌∷◌, ◌++◌, length, None, Option, sym, refl, ap, ◌∙◌, subst, append_assoc, append-nil}
-use Rattle.std.specs.List.{flat_map, AllByRecursion as All}
+use Rattle.std.specs.List.{flat_map, AllByRecursion}
 use Rattle.std.proofs.lemmas.List.{flat_map_more, length_push}
 use Rattle.std.proofs.ByRecursion.{All-push}
 use Rattle.std.proofs.lemmas.Bool.{both_ways}
@@ -20,7 +20,7 @@ cut_byte text lines rest b plain c = record {
 cut_newline : (text : List ℕ) (lines : List (List ℕ)) (rest : List ℕ) → Cut text lines rest → Cut (text ++ 10 ∷ []) (lines ++ rest ∷ []) []
 cut_newline text lines rest c = record {
   is = ap (λ t. t ++ 10 ∷ []) c.is ∙ append_assoc (flat_map with_newline lines) rest (10 ∷ []) ∙ flat_map_more with_newline [] lines rest ∙ sym (append-nil (flat_map with_newline (lines ++ rest ∷ [])));
-  plain_lines = All-push (All Plain) lines rest c.plain_lines c.plain_rest;
+  plain_lines = All-push (AllByRecursion Plain) lines rest c.plain_lines c.plain_rest;
   plain_rest = tt;
 }
 

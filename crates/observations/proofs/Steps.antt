@@ -1,6 +1,6 @@
 -- What one more byte makes of a line, and what a line says at its end. Assumes nothing.
 use Rattle.std.proofs.Common.{◌≡◌, ℕ, ◌+◌, ◌-◌, ◌*◌, ◌^◌, ◌<◌, ◌≤◌, ltb, ◌⊎◌, List, [], ◌∷◌, ◌++◌, map, length, Ok, Err, sym, refl, ap, ◌∙◌, subst, inl, inr, ⊎_elim, append_assoc, append-nil, arith, length-append}
-use Rattle.std.specs.List.{AllByRecursion as All}
+use Rattle.std.specs.List.{AllByRecursion}
 use Rattle.std.specs.Int.Digits.{number_from_digits}
 use Rattle.std.proofs.lemmas.List.{map_push}
 use Rattle.std.proofs.lemmas.Int.Digits.{number_push}
@@ -19,7 +19,7 @@ abbrev Without : (ℕ → Type 0) → List ℕ → Type 0
 Without P [] = Unit {0}
 Without P (y ∷ ys) = P y → ⊥
 
-pub one_cut : (P : ℕ → Type 0) (xs ys zs ws : List ℕ) → All P xs → All P zs → Without P ys → Without P ws → xs ++ ys ≡ zs ++ ws → (xs ≡ zs) × (ys ≡ ws)
+pub one_cut : (P : ℕ → Type 0) (xs ys zs ws : List ℕ) → AllByRecursion P xs → AllByRecursion P zs → Without P ys → Without P ws → xs ++ ys ≡ zs ++ ws → (xs ≡ zs) × (ys ≡ ws)
 one_cut P [] ys [] ws a b c d e = (refl, e)
 one_cut P [] ys (z ∷ zs) ws a b c d e = absurd (subst (Without P) e c b.0)
 one_cut P (x ∷ xs) ys [] ws a b c d e = absurd (subst (Without P) (sym e) d a.0)
@@ -35,20 +35,20 @@ apart b (inl e) d = omega arith
 apart b (inr (inl e)) d = omega arith
 apart b (inr (inr e)) d = omega arith
 
-digits_open : (digits after : List ℕ) → 0 < length digits → All DigitByte digits → Without BlankByte (digits ++ after)
+digits_open : (digits after : List ℕ) → 0 < length digits → AllByRecursion DigitByte digits → Without BlankByte (digits ++ after)
 digits_open [] after s d = absurd (omega arith)
 digits_open (x ∷ xs) after s d = λ b. apart x b d.0
 
-blanks_open : (after more : List ℕ) → All BlankByte after → 0 < length after → Without DigitByte (after ++ more)
+blanks_open : (after more : List ℕ) → AllByRecursion BlankByte after → 0 < length after → Without DigitByte (after ++ more)
 blanks_open [] more b s = absurd (omega arith)
 blanks_open (x ∷ xs) more b s = apart x b.0
 
-blanks_close : (after : List ℕ) → All BlankByte after → Without DigitByte after
+blanks_close : (after : List ℕ) → AllByRecursion BlankByte after → Without DigitByte after
 blanks_close [] b = tt
 blanks_close (x ∷ xs) b = apart x b.0
 
 -- a line has one run of digits
-pub one_run : (a d z : List ℕ) {line : List ℕ} {n : ℕ} (w : Writes line n) → line ≡ a ++ (d ++ z) → All BlankByte a → All DigitByte d → 0 < length d → Without DigitByte z → (d ≡ w.digits) × (z ≡ w.after)
+pub one_run : (a d z : List ℕ) {line : List ℕ} {n : ℕ} (w : Writes line n) → line ≡ a ++ (d ++ z) → AllByRecursion BlankByte a → AllByRecursion DigitByte d → 0 < length d → Without DigitByte z → (d ≡ w.digits) × (z ≡ w.after)
 one_run a d z w e blank digits some unlike =
     let first = one_cut BlankByte a (d ++ z) w.before (w.digits ++ w.after) blank w.blank_before (digits_open d z some digits) (digits_open w.digits w.after w.some w.all_digits) (sym e ∙ w.is) in
     one_cut DigitByte d z w.digits w.after digits w.all_digits unlike (blanks_close w.after w.blank_after) first.1
@@ -59,16 +59,16 @@ one_number v w =
     sym v.value ∙ ap worth same.0 ∙ w.value
 
 -- an element in the middle
-all_at : (P : ℕ → Type 0) (xs : List ℕ) (y : ℕ) (ys : List ℕ) → All P (xs ++ y ∷ ys) → P y
+all_at : (P : ℕ → Type 0) (xs : List ℕ) (y : ℕ) (ys : List ℕ) → AllByRecursion P (xs ++ y ∷ ys) → P y
 all_at P [] y ys a = a.0
 all_at P (x ∷ xs) y ys a = all_at P xs y ys a.1
 
 abbrev Known : ℕ → Type 0
 Known b = BlankByte b ⊎ DigitByte b
 
-known : {line : List ℕ} {n : ℕ} → Writes line n → All Known line
+known : {line : List ℕ} {n : ℕ} → Writes line n → AllByRecursion Known line
 known w =
-    subst (All Known) (sym w.is)
+    subst (AllByRecursion Known) (sym w.is)
     (All-append Known w.before (w.digits ++ w.after) (All-weaker BlankByte Known (λ _ h. inl h) w.before w.blank_before)
     (All-append Known w.digits w.after (All-weaker DigitByte Known (λ _ h. inr h) w.digits w.all_digits) (All-weaker BlankByte Known (λ _ h. inl h) w.after w.blank_after)))
 
@@ -109,7 +109,7 @@ after_one_blank text b (Digits a) blank h = (h.0, one_blank_more b blank h.1, om
 after_one_blank text b (Closed a) blank h = (h.0, one_blank_more b blank h.1, omega (arith, length-append h.1.after (b ∷ [])), h.3)
 after_one_blank text b Broken blank h = λ more n w. h (b ∷ more) n (subst (λ l. Writes l n) (append_assoc text (b ∷ []) more) w)
 
-abbrev first_digit : (text : List ℕ) (b d : ℕ) → DigitByte b → d ≡ b - 48 → All BlankByte text → Writes (text ++ b ∷ []) d
+abbrev first_digit : (text : List ℕ) (b d : ℕ) → DigitByte b → d ≡ b - 48 → AllByRecursion BlankByte text → Writes (text ++ b ∷ []) d
 first_digit text b d digit e blank = record {
   before = text;
   digits = b ∷ [];
@@ -142,7 +142,7 @@ pub digit_apart : {text : List ℕ} {n : ℕ} (b : ℕ) → DigitByte b → (w :
 digit_apart {text} b digit w some more m v =
     let e = append_assoc text (b ∷ []) more ∙ ap (λ t. t ++ b ∷ more) w.is ∙ append_assoc w.before (w.digits ++ w.after) (b ∷ more) ∙ ap (λ t. w.before ++ t) (append_assoc w.digits w.after (b ∷ more)) in
     let same = one_run w.before w.digits (w.after ++ b ∷ more) v e w.blank_before w.all_digits w.some (blanks_open w.after (b ∷ more) w.blank_after some) in
-    apart b (all_at BlankByte w.after b more (subst (All BlankByte) (sym same.1) v.blank_after)) digit
+    apart b (all_at BlankByte w.after b more (subst (AllByRecursion BlankByte) (sym same.1) v.blank_after)) digit
 
 pub after_one_digit : (text : List ℕ) (b d : ℕ) (line : Line) → DigitByte b → d ≡ b - 48 → Has text line → Has (text ++ b ∷ []) (after_digit line d)
 after_one_digit text b d Blanks digit e h = (d, first_digit text b d digit e h, refl, refl)
@@ -151,10 +151,10 @@ after_one_digit text b d (Closed a) digit e h = digit_apart b digit h.1 h.2
 after_one_digit text b d Broken digit e h = λ more n w. h (b ∷ more) n (subst (λ l. Writes l n) (append_assoc text (b ∷ []) more) w)
 
 pub after_other : (text : List ℕ) (b : ℕ) → (BlankByte b → ⊥) → (DigitByte b → ⊥) → Has (text ++ b ∷ []) Broken
-after_other text b no-blank no_digit more n w = ⊎_elim no-blank no_digit (all_at Known text b more (subst (All Known) (append_assoc text (b ∷ []) more) (known w)))
+after_other text b no_blank no_digit more n w = ⊎_elim no_blank no_digit (all_at Known text b more (subst (AllByRecursion Known) (append_assoc text (b ∷ []) more) (known w)))
 
 -- at the end
-no_digit_in : (a d z : List ℕ) → All BlankByte (a ++ (d ++ z)) → All DigitByte d → 0 < length d → ⊥
+no_digit_in : (a d z : List ℕ) → AllByRecursion BlankByte (a ++ (d ++ z)) → AllByRecursion DigitByte d → 0 < length d → ⊥
 no_digit_in a [] z blank digits some = omega arith
 no_digit_in a (x ∷ xs) z blank digits some = apart x (all_at BlankByte a x (xs ++ z) blank) digits.0
 
@@ -197,7 +197,7 @@ says_number {text} {n} a w e =
     (cases_lt n (2 ^ 32)))
 
 pub says : (text : List ℕ) (line : Line) → Has text line → Says text (said line)
-says text Blanks h = says_none (λ n w. no_digit_in w.before w.digits w.after (subst (All BlankByte) w.is h) w.all_digits w.some)
+says text Blanks h = says_none (λ n w. no_digit_in w.before w.digits w.after (subst (AllByRecursion BlankByte) w.is h) w.all_digits w.some)
 says text (Digits a) h = says_number a h.1 h.3
 says text (Closed a) h = says_number a h.1 h.3
 says text Broken h = says_none (λ n w. h [] n (subst (λ l. Writes l n) (sym (append-nil text)) w))

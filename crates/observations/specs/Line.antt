@@ -1,6 +1,6 @@
 -- The rule of a line: which number it writes, and what is said of it. Assumes nothing.
 use Rattle.std.specs.Prelude.{◌≡◌, ℕ, ◌-◌, ◌^◌, ◌<◌, ◌≤◌, ◌⊎◌, List, ◌++◌, map, length, Ok, Err, Result}
-use Rattle.std.specs.List.{AllByRecursion as All}
+use Rattle.std.specs.List.{AllByRecursion}
 use Rattle.std.specs.Int.Digits.{number_from_digits}
 use Rattle.observations.specs.declared.line.LineFault.{LineFault}
 use Rattle.observations.specs.declared.line.LineFault.TheVariants.{NotANumber, TooLarge}
@@ -23,10 +23,10 @@ pub record Writes (line : List ℕ) (n : ℕ) : Type 0 where
   pub digits : List ℕ
   pub after : List ℕ
   pub is : line ≡ before ++ (digits ++ after)
-  pub blank_before : All BlankByte before
-  pub all_digits : All DigitByte digits
+  pub blank_before : AllByRecursion BlankByte before
+  pub all_digits : AllByRecursion DigitByte digits
   pub some : 0 < length digits
-  pub blank_after : All BlankByte after
+  pub blank_after : AllByRecursion BlankByte after
   pub value : worth digits ≡ n
 
 -- the answer to a line: its number when it writes one below 2 ^ 32, and else why there is none

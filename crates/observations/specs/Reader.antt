@@ -1,6 +1,6 @@
 -- What the reader of a line knows after some of its bytes. Assumes nothing.
 use Rattle.std.specs.Prelude.{◌≡◌, ℕ, ◌+◌, ◌-◌, ◌*◌, ◌^◌, ◌<◌, cond, List, [], ◌++◌, length, Ok, Err, Result, nat_lt}
-use Rattle.std.specs.List.{AllByRecursion as All}
+use Rattle.std.specs.List.{AllByRecursion}
 use Rattle.observations.specs.declared.line.LineFault.{LineFault}
 use Rattle.observations.specs.declared.line.LineFault.TheVariants.{NotANumber, TooLarge}
 use Rattle.observations.specs.declared.line.Mark.{Mark}
@@ -22,7 +22,7 @@ amount_of n = cond (nat_lt n (2 ^ 32)) (Fits n) Exceeds
 
 -- what stands of a line after this text
 abbrev pub Has : List ℕ → Line → Type 0
-Has text Blanks = All BlankByte text
+Has text Blanks = AllByRecursion BlankByte text
 Has text (Digits a) = (n : ℕ) × (w : Writes text n) × (w.after ≡ []) × (a ≡ amount_of n)
 Has text (Closed a) = (n : ℕ) × (w : Writes text n) × (0 < length w.after) × (a ≡ amount_of n)
 Has text Broken = (more : List ℕ) (n : ℕ) → Writes (text ++ more) n → ⊥

@@ -1,6 +1,6 @@
 -- A source: its text, cut into lines, and what was read of it. Assumes nothing.
 use Rattle.std.specs.Prelude.{◌≡◌, ℕ, ◌+◌, Bool, true, false, List, [], ◌∷◌, ◌++◌, length, Some, None, Ok, Err, Option, Result}
-use Rattle.std.specs.List.{flat_map, AllByRecursion as All}
+use Rattle.std.specs.List.{flat_map, AllByRecursion}
 use Rattle.observations.specs.declared.line.LineFault.{LineFault}
 use Rattle.observations.specs.declared.source.RefusedLine.{RefusedLine}
 use Rattle.observations.specs.declared.source.Source.{Source}
@@ -19,8 +19,8 @@ with_newline line = line ++ 10 ∷ []
 -- the text is these lines, each ended by a newline, and then a rest with none
 pub record Cut (text : List ℕ) (lines : List (List ℕ)) (rest : List ℕ) : Type 0 where
   pub is : text ≡ flat_map with_newline lines ++ rest
-  pub plain_lines : All (All Plain) lines
-  pub plain_rest : All Plain rest
+  pub plain_lines : AllByRecursion (AllByRecursion Plain) lines
+  pub plain_rest : AllByRecursion Plain rest
 
 abbrev pub some_byte : List ℕ → Bool
 some_byte [] = false
