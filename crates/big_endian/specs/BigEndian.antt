@@ -3,6 +3,7 @@ use Rattle.std.specs.Prelude.{◌≡◌, ℕ, zero, suc, ◌+◌, ◌*◌, ◌/�
 use Rattle.std.proofs.Common.{sym, ap, ap₂, subst, ◌∙◌, mod-lt, mod-eq_of_lt, arith, lit<, length-drop}
 use Rattle.std.proofs.Math.Nat.{mod-one, pow-succ'}
 use Rattle.std.proofs.Math.Arith.{mod-mul, digits_lt, digits_div, digits_mod}
+use Rattle.std.proofs.Math.Seq.{take-append_seam}
 use Rattle.std.proofs.lemmas.List.{get_or-take, get_or-drop, length-take-le}
 
 -- each number is a byte
@@ -150,29 +151,63 @@ four_small b at o = omega (arith, o at, o (at + 1), o (at + 2), o (at + 3))
 pub octets_four : (n : ℕ) → Octets (four_bytes n)
 octets_four n = subst Octets (big_four n) (octets_big 4 n)
 
-pub four_of_bytes : (n : ℕ) (rest : List ℕ) → n < 2 ^ 32 → four (four_bytes n ++ rest) 0 ≡ n
-four_of_bytes n rest h = sym (of_four (four_bytes n) refl) ∙ ap number (sym (big_four n)) ∙ number_of_big 4 n h
+-- what is read at a place is read at the front of what begins there
+eight_drop : (b : List ℕ) (k at : ℕ) → eight (drop k b) at ≡ eight b (k + at)
+eight_drop b k at =
+    let p : (j : ℕ) → slice_index (drop k b) (at + j) ≡ slice_index_or b (k + at + j) 0 = λ j. get_or-drop k b (at + j) 0 ∙ ap (λ i. slice_index b i) (omega arith) in
+    omega (arith, get_or-drop k b at 0, p 1, p 2, p 3, p 4, p 5, p 6, p 7)
 
 four_take : (b : List ℕ) → four (take 4 b) 0 ≡ four b 0
 four_take b = let p : (j : ℕ) → j < 4 → slice_index (take 4 b) j ≡ slice_index_or b j 0 = λ j. get_or-take 4 b j 0 in omega (arith, p 0 (lit< tt), p 1 (lit< tt), p 2 (lit< tt), p 3 (lit< tt))
 
--- writing what four bytes say gives the bytes back
-pub bytes_of_four : (b : List ℕ) (at : ℕ) → at + 4 ≤ length b → Octets b → four_bytes (four b at) ≡ take 4 (drop at b)
-bytes_of_four b at h o =
-    let part = take 4 (drop at b) in
-    let n : length part ≡ 4 = length-take-le 4 (drop at b) (omega (arith, length-drop at b)) in
-    let k : at + 0 ≡ at = omega arith in
-    let v : four b at ≡ number part = ap (four b) (sym k) ∙ sym (four_drop b at 0) ∙ sym (four_take (drop at b)) ∙ sym (of_four part n) in
-    ap four_bytes v ∙ sym (big_four (number part)) ∙ ap (λ w. big w (number part)) (sym n) ∙ big_number part (octets_take 4 (drop at b) (octets_drop at b o))
+eight_take : (b : List ℕ) → eight (take 8 b) 0 ≡ eight b 0
+eight_take b =
+    let p : (j : ℕ) → j < 8 → slice_index (take 8 b) j ≡ slice_index_or b j 0 = λ j. get_or-take 8 b j 0 in
+    omega (arith, p 0 (lit< tt), p 1 (lit< tt), p 2 (lit< tt), p 3 (lit< tt), p 4 (lit< tt), p 5 (lit< tt), p 6 (lit< tt), p 7 (lit< tt))
 
-pub eight_small : (b : List ℕ) → Octets b → eight b 0 < 2 ^ 64
-eight_small b o = omega (arith, o 0, o 1, o 2, o 3, o 4, o 5, o 6, o 7)
+-- a way to read w bytes at a place, and a way to write them, that are those of any width
+record Reading (w : ℕ) (read : List ℕ → ℕ → ℕ) (bytes : ℕ → List ℕ) : Type 0 where
+  of_part : (b : List ℕ) → length b ≡ w → number b ≡ read b 0
+  moved : (b : List ℕ) (k at : ℕ) → read (drop k b) at ≡ read b (k + at)
+  cut : (b : List ℕ) → read (take w b) 0 ≡ read b 0
+  written : (n : ℕ) → big w n ≡ bytes n
+
+fours : Reading 4 four four_bytes
+fours = record { of_part = of_four; moved = four_drop; cut = four_take; written = big_four }
+
+eights : Reading 8 eight eight_bytes
+eights = record { of_part = of_eight; moved = eight_drop; cut = eight_take; written = big_eight }
+
+module _ {w : ℕ} {read : List ℕ → ℕ → ℕ} {bytes : ℕ → List ℕ} (reading : Reading w read bytes) where
+  read_bytes : (n : ℕ) (rest : List ℕ) → n < 256 ^ w → read (bytes n ++ rest) 0 ≡ n
+  read_bytes n rest h =
+      let l : length (bytes n) ≡ w = ap length (sym (reading.written n)) ∙ length_big w n in
+      let front : take w (bytes n ++ rest) ≡ bytes n = ap (λ k. take k (bytes n ++ rest)) (sym l) ∙ take-append_seam (bytes n) rest in
+      sym (reading.cut (bytes n ++ rest)) ∙ ap (λ b. read b 0) front ∙ sym (reading.of_part (bytes n) l) ∙ ap number (sym (reading.written n)) ∙ number_of_big w n h
+
+  -- writing what the bytes say gives the bytes back
+  bytes_read : (b : List ℕ) (at : ℕ) → at + w ≤ length b → Octets b → bytes (read b at) ≡ take w (drop at b)
+  bytes_read b at h o =
+      let part = take w (drop at b) in
+      let n : length part ≡ w = length-take-le w (drop at b) (omega (arith, length-drop at b)) in
+      let k : at + 0 ≡ at = omega arith in
+      let v : read b at ≡ number part = ap (read b) (sym k) ∙ sym (reading.moved b at 0) ∙ sym (reading.cut (drop at b)) ∙ sym (reading.of_part part n) in
+      ap bytes v ∙ sym (reading.written (number part)) ∙ ap (λ m. big m (number part)) (sym n) ∙ big_number part (octets_take w (drop at b) (octets_drop at b o))
+
+pub four_of_bytes : (n : ℕ) (rest : List ℕ) → n < 2 ^ 32 → four (four_bytes n ++ rest) 0 ≡ n
+four_of_bytes n rest h = read_bytes fours n rest h
+
+pub bytes_of_four : (b : List ℕ) (at : ℕ) → at + 4 ≤ length b → Octets b → four_bytes (four b at) ≡ take 4 (drop at b)
+bytes_of_four = bytes_read fours
+
+pub eight_small : (b : List ℕ) (at : ℕ) → Octets b → eight b at < 2 ^ 64
+eight_small b at o = omega (arith, o at, o (at + 1), o (at + 2), o (at + 3), o (at + 4), o (at + 5), o (at + 6), o (at + 7))
 
 pub octets_eight : (n : ℕ) → Octets (eight_bytes n)
 octets_eight n = subst Octets (big_eight n) (octets_big 8 n)
 
-pub eight_of_bytes : (n : ℕ) → n < 2 ^ 64 → eight (eight_bytes n) 0 ≡ n
-eight_of_bytes n h = sym (of_eight (eight_bytes n) refl) ∙ ap number (sym (big_eight n)) ∙ number_of_big 8 n h
+pub eight_of_bytes : (n : ℕ) (rest : List ℕ) → n < 2 ^ 64 → eight (eight_bytes n ++ rest) 0 ≡ n
+eight_of_bytes n rest h = read_bytes eights n rest h
 
-pub bytes_of_eight : (b : List ℕ) → length b ≡ 8 → Octets b → eight_bytes (eight b 0) ≡ b
-bytes_of_eight b n o = ap eight_bytes (sym (of_eight b n)) ∙ sym (big_eight (number b)) ∙ ap (λ w. big w (number b)) (sym n) ∙ big_number b o
+pub bytes_of_eight : (b : List ℕ) (at : ℕ) → at + 8 ≤ length b → Octets b → eight_bytes (eight b at) ≡ take 8 (drop at b)
+bytes_of_eight = bytes_read eights

@@ -3,7 +3,7 @@ ghost use Rattle.std.specs.Prelude.{◌≡◌, ◌+◌, ◌*◌, ◌<◌, ◌≤
 ghost use Rattle.frame_items.specs.Items.{number as is_number};
 ghost use Rattle.frame.specs.Frames.{entries_allowed, opening_fault, parties_fault, state_fault, counts_fault, counted_length, header_fault};
 
-use big_endian::u32_at;
+use big_endian::BigEndian;
 use protocol::limits::{CLOCK_MAX, FRAME_BYTES_MAX, FRAME_BYTES_MIN, NODES_MAX, TIER_MAX};
 use protocol::refusal::{Condition, FrameFault};
 use tally::kind::Tally;
@@ -80,13 +80,13 @@ fn state_fault(bytes: &[u8]) -> Option<FrameFault>
             place: 5,
         });
     }
-    if u32_at(bytes, 6) > CLOCK_MAX {
+    if u32::read_at(bytes, 6) > CLOCK_MAX {
         return Some(FrameFault {
             condition: Condition::Clock,
             place: 6,
         });
     }
-    if u32_at(bytes, 10) > CLOCK_MAX {
+    if u32::read_at(bytes, 10) > CLOCK_MAX {
         return Some(FrameFault {
             condition: Condition::Clock,
             place: 10,

@@ -8,7 +8,7 @@ ghost use Rattle.frame.specs.View.{viewed, answered};
 
 use crate::header::header_fault;
 use crate::received::{Part, Received};
-use big_endian::u32_at;
+use big_endian::BigEndian;
 use frame_items::item::Item;
 use frame_items::rows::{has_entry, row_fault};
 use protocol::records::{Entry, SourceSlot, Token};
@@ -106,8 +106,8 @@ fn parts<'a, K: Tally>(bytes: &'a [u8], tokens_place: usize, entries_place: usiz
         tier: bytes[3],
         addressee: bytes[4],
         holds: bytes[5] == 1,
-        source_clock: u32_at(bytes, 6),
-        destination_clock: u32_at(bytes, 10),
+        source_clock: u32::read_at(bytes, 6),
+        destination_clock: u32::read_at(bytes, 10),
         slots: Part {
             bytes: &bytes[17..tokens_place],
             place: 17,

@@ -5,7 +5,7 @@ ghost use Rattle.std.proofs.Common.{rules};
 
 use crate::item::Item;
 use crate::tallies::{tally_fault, tally_shown, write_tally};
-use big_endian::{put_u32, u32_at};
+use big_endian::BigEndian;
 use protocol::limits::{CLOCK_MAX, NODES_MAX};
 use protocol::records::Entry;
 use protocol::refusal::{Condition, FrameFault};
@@ -34,7 +34,7 @@ impl<K: Tally> Item for Entry<K> {
                 place,
             });
         }
-        if u32_at(bytes, 1) > CLOCK_MAX {
+        if u32::read_at(bytes, 1) > CLOCK_MAX {
             return Some(FrameFault {
                 condition: Condition::ItemClock,
                 place: place + 1,
@@ -46,14 +46,14 @@ impl<K: Tally> Item for Entry<K> {
     fn shown(bytes: &[u8]) -> Entry<K> {
         Entry {
             number: bytes[0],
-            version: u32_at(bytes, 1),
+            version: u32::read_at(bytes, 1),
             tally: tally_shown::<K>(bytes, 5),
         }
     }
 
     fn write(&self, out: &mut [u8]) {
         out[0] = self.number;
-        put_u32(out, 1, self.version);
+        self.version.write_at(out, 1);
         write_tally(&self.tally, out, 5);
     }
 }

@@ -4,7 +4,7 @@ ghost use Rattle.frame_items.specs.Items.{slots};
 ghost use Rattle.std.proofs.Common.{rules};
 
 use crate::item::Item;
-use big_endian::{put_u32, u32_at};
+use big_endian::BigEndian;
 use protocol::limits::{CLOCK_MAX, NODES_MAX};
 use protocol::records::{Slot, SourceSlot};
 use protocol::refusal::{Condition, FrameFault};
@@ -32,13 +32,13 @@ impl Item for SourceSlot {
                 place,
             });
         }
-        if u32_at(bytes, 1) > CLOCK_MAX {
+        if u32::read_at(bytes, 1) > CLOCK_MAX {
             return Some(FrameFault {
                 condition: Condition::ItemClock,
                 place: place + 1,
             });
         }
-        if u32_at(bytes, 5) > CLOCK_MAX {
+        if u32::read_at(bytes, 5) > CLOCK_MAX {
             return Some(FrameFault {
                 condition: Condition::ItemClock,
                 place: place + 5,
@@ -51,15 +51,15 @@ impl Item for SourceSlot {
         SourceSlot {
             source: bytes[0],
             slot: Slot {
-                source_clock: u32_at(bytes, 1),
-                destination_clock: u32_at(bytes, 5),
+                source_clock: u32::read_at(bytes, 1),
+                destination_clock: u32::read_at(bytes, 5),
             },
         }
     }
 
     fn write(&self, out: &mut [u8]) {
         out[0] = self.source;
-        put_u32(out, 1, self.slot.source_clock);
-        put_u32(out, 5, self.slot.destination_clock);
+        self.slot.source_clock.write_at(out, 1);
+        self.slot.destination_clock.write_at(out, 5);
     }
 }

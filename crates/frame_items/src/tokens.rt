@@ -5,7 +5,7 @@ ghost use Rattle.std.proofs.Common.{rules};
 
 use crate::item::Item;
 use crate::tallies::{tally_fault, tally_shown, write_tally};
-use big_endian::{put_u32, u32_at};
+use big_endian::BigEndian;
 use protocol::limits::{CLOCK_MAX, NODES_MAX};
 use protocol::records::Token;
 use protocol::refusal::{Condition, FrameFault};
@@ -52,13 +52,13 @@ impl<K: Tally> Item for Token<K> {
                 place,
             });
         }
-        if u32_at(bytes, 2) > CLOCK_MAX {
+        if u32::read_at(bytes, 2) > CLOCK_MAX {
             return Some(FrameFault {
                 condition: Condition::ItemClock,
                 place: place + 2,
             });
         }
-        if u32_at(bytes, 6) > CLOCK_MAX {
+        if u32::read_at(bytes, 6) > CLOCK_MAX {
             return Some(FrameFault {
                 condition: Condition::ItemClock,
                 place: place + 6,
@@ -71,8 +71,8 @@ impl<K: Tally> Item for Token<K> {
         Token {
             source: bytes[0],
             destination: bytes[1],
-            source_clock: u32_at(bytes, 2),
-            destination_clock: u32_at(bytes, 6),
+            source_clock: u32::read_at(bytes, 2),
+            destination_clock: u32::read_at(bytes, 6),
             tally: tally_shown::<K>(bytes, 10),
         }
     }
@@ -80,8 +80,8 @@ impl<K: Tally> Item for Token<K> {
     fn write(&self, out: &mut [u8]) {
         out[0] = self.source;
         out[1] = self.destination;
-        put_u32(out, 2, self.source_clock);
-        put_u32(out, 6, self.destination_clock);
+        self.source_clock.write_at(out, 2);
+        self.destination_clock.write_at(out, 6);
         write_tally(&self.tally, out, 10);
     }
 }

@@ -3,7 +3,7 @@ ghost use Rattle.movements.specs.Coding.{pair_at, rest_in, with_pair_at, reporte
 
 use crate::fault::PairFault;
 use crate::pair::Pair;
-use big_endian::{put_u32, u32_at};
+use big_endian::BigEndian;
 use tally::fault::Fault;
 
 /// One of the sixteen pairs that bytes write.
@@ -13,8 +13,8 @@ pub fn pair_at(bytes: &[u8], index: usize) -> Pair
     ensures { result ≡ pair_at bytes.now index }
 {
     Pair {
-        key: u32_at(bytes, 8 * index),
-        count: u32_at(bytes, 8 * index + 4),
+        key: u32::read_at(bytes, 8 * index),
+        count: u32::read_at(bytes, 8 * index + 4),
     }
 }
 
@@ -23,7 +23,7 @@ pub fn rest_in(bytes: &[u8]) -> u32
     requires { length bytes.now ≡ 132 }
     ensures { result ≡ rest_in bytes.now }
 {
-    u32_at(bytes, 128)
+    u32::read_at(bytes, 128)
 }
 
 /// Writes one of the sixteen pairs, the key before the count; the other bytes stay.
@@ -32,8 +32,8 @@ pub fn put_pair(out: &mut [u8], index: usize, pair: Pair)
     requires within { index < 16 }
     ensures { out.new ≡ with_pair_at out.old index pair }
 {
-    put_u32(out, 8 * index, pair.key);
-    put_u32(out, 8 * index + 4, pair.count);
+    pair.key.write_at(out, 8 * index);
+    pair.count.write_at(out, 8 * index + 4);
 }
 
 /// The fault of a pair as a reader reports it: the place is the pair's first byte.

@@ -7,7 +7,7 @@ use crate::fault::fault_of;
 use crate::join::{Gathered, least, past};
 use crate::kept::Movements;
 use crate::pair::{PAIRS, Pair};
-use big_endian::put_u32;
+use big_endian::BigEndian;
 use tally::fault::Fault;
 use tally::kind::Tally;
 
@@ -72,7 +72,7 @@ impl Tally for Movements {
         for i in 0..PAIRS {
             put_pair(out, i, self.pairs[i]);
         }
-        put_u32(out, 128, self.rest);
+        self.rest.write_at(out, 128);
     }
 
     fn read(bytes: &[u8]) -> Result<Movements, Fault> {

@@ -1,9 +1,10 @@
 -- The kind `vehicles`: one count, whose join adds and stops at 2 ^ 64 - 1.
-use Rattle.std.specs.Prelude.{◌≡◌, ℕ, ◌+◌, ◌-◌, ◌^◌, ◌<◌, min, Ok, ◌==◌, refl}
+use Rattle.std.specs.Prelude.{◌≡◌, ℕ, ◌+◌, ◌-◌, ◌^◌, ◌<◌, min, [], Ok, ◌==◌, refl}
 use Rattle.std.proofs.Common.{ap, ◌∙◌, arith, lit<, lit≤}
 use mathlib.Core.HLevel.{is_prop→PathP}
 use Rattle.std.proofs.Math.Bridge.{le_prop}
 use Rattle.std.proofs.lemmas.Bool.{eqb-true}
+use Rattle.std.proofs.lemmas.List.{take_all}
 use Rattle.big_endian.specs.BigEndian.{eight, eight_bytes, octets_eight, eight_small, eight_of_bytes, bytes_of_eight}
 use Rattle.tally.specs.Kind.{Kind, Lawful}
 use Rattle.tally.specs.declared.vehicles.counted.Vehicles.{Vehicles}
@@ -39,11 +40,11 @@ vehicles_lawful = record {
   width_max = lit≤ tt;
   written = λ x. refl;
   octets = λ x. octets_eight x.count;
-  reads_back = λ x. ap Ok (same _ _ (omega (arith, eight_of_bytes x.count x.fits, x.fits)));
+  reads_back = λ x. ap Ok (same _ _ (omega (arith, eight_of_bytes x.count [] x.fits, x.fits)));
   reads_only = λ bytes l o x e.
       let h : counted (eight bytes 0) ≡ x = cc in
       let n = ap (λ v. v.count) h in
-      let m : x.count ≡ eight bytes 0 = omega (arith, eight_small bytes o, n) in
-      ap eight_bytes m ∙ bytes_of_eight bytes l o;
+      let m : x.count ≡ eight bytes 0 = omega (arith, eight_small bytes 0 o, n) in
+      ap eight_bytes m ∙ bytes_of_eight bytes 0 (omega arith) o ∙ take_all 8 bytes (omega arith);
   fault_within = λ bytes l f e. let z : ◌≡◌ {A = ℕ} 0 1 = cc in absurd (omega arith);
 }

@@ -10,7 +10,7 @@ ghost use Rattle.tally.specs.Queues.{edges, stop, by_band, written_in, queues, q
 use crate::fault::Fault;
 use crate::kind::Tally;
 pub use banded::Queues;
-use big_endian::{put_u32, u32_at};
+use big_endian::BigEndian;
 
 /// The lower edges of the bands, in vehicles.
 pub const EDGES: [u32; 16] = [0, 1, 2, 3, 4, 5, 6, 8, 10, 13, 16, 20, 25, 32, 40, 50];
@@ -95,7 +95,7 @@ impl Queues {
         requires within { band < 16 }
         ensures { out.new ≡ put_mid (4 * band) 4 out.old (four_bytes (count_in self.now band)) }
     {
-        put_u32(out, 4 * band, self.counts[band]);
+        self.counts[band].write_at(out, 4 * band);
     }
 }
 
@@ -105,7 +105,7 @@ fn count_at(bytes: &[u8], band: usize) -> u32
     requires within { band < 16 }
     ensures { result ≡ written_in bytes.now band }
 {
-    u32_at(bytes, 4 * band)
+    u32::read_at(bytes, 4 * band)
 }
 
 impl Tally for Queues {

@@ -8,7 +8,7 @@ ghost use Rattle.big_endian.specs.BigEndian.{eight};
 
 use crate::fault::Fault;
 use crate::kind::Tally;
-use big_endian::{put_u64, u64_of};
+use big_endian::BigEndian;
 pub use counted::Vehicles;
 
 impl Vehicles {
@@ -25,7 +25,7 @@ impl Vehicles {
         requires { length bytes.now ≡ 8 }
         ensures { result ≡ counted (eight bytes.now 0) }
     {
-        Vehicles::of(u64_of(bytes))
+        Vehicles::of(u64::read_at(bytes, 0))
     }
 }
 
@@ -55,7 +55,7 @@ impl Tally for Vehicles {
     }
 
     fn write(&self, out: &mut [u8]) {
-        put_u64(out, self.count);
+        self.count.write_at(out, 0);
     }
 
     fn read(bytes: &[u8]) -> Result<Vehicles, Fault> {

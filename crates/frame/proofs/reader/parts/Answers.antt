@@ -18,4 +18,4 @@ returns g c =
     let s = row_of_part (slots 0) b 17 tp (get_or b 14 0) (omega arith) laid.2 (omega arith) ∙ slots_alike 0 (get_or b 2 0) (get_or b 14 0) (drop 17 b) in
     let t = row_of_part (tokens kind) b tp ep (get_or b 15 0) (omega arith) laid.3 (omega arith) ∙ ap (λ k. shown_row (tokens kind) (get_or b 15 0) (drop k b)) laid.2 in
     let e = row_of_part (entries kind) b ep (length b) (get_or b 16 0) (omega arith) laid.4 (omega arith) ∙ ap (λ k. shown_row (entries kind) (get_or b 16 0) (drop k b)) at in
-    frame_same _ _ refl refl refl refl c.u32_at.ensures c.u32_at-2.ensures s t e
+    frame_same _ _ refl refl refl refl c.read_at.ensures c.read_at-2.ensures s t e
