@@ -1,3 +1,5 @@
 pub mod Lawful
 pub mod Walk
 pub mod Octets
+pub mod Made
+pub mod Asking

@@ -1,17 +1,13 @@
 -- What the loops keep that write a tally's pairs into bytes and read them back.
-use Rattle.std.proofs.Common.{◌≡◌, ℕ, suc, ◌+◌, ◌-◌, ◌*◌, ◌<◌, ◌≤◌, List, [], ◌∷◌, ◌++◌, length, get_or, take, drop, set, Some, None, Option, sym, refl, ap, ◌∙◌, ap₂, append_assoc, append-nil, arith, length-append, length-drop, length-set}
+use Rattle.std.proofs.Common.{◌≡◌, ℕ, ◌+◌, ◌*◌, ◌<◌, ◌≤◌, List, [], ◌++◌, length, get_or, take, drop, sym, refl, ap, ◌∙◌, ap₂, append_assoc, append-nil, arith, length-append, length-drop}
 use borrow.Rule.Slice.PartMut.{put_mid}
 use Rattle.std.specs.List.{flat_map}
-use Rattle.std.proofs.lemmas.List.FromFn.{fill_by_all}
-use Rattle.std.proofs.lemmas.List.Edits.{fill_by_more}
 use Rattle.std.proofs.lemmas.List.{drop-drop, drop_all, take_all, take_more, length-take-le, flat_map_more}
 use Rattle.big_endian.specs.BigEndian.{four_bytes}
 use Rattle.big_endian.proofs.Parts.{put_next}
-use Rattle.movements.specs.declared.fault.PairFault.{PairFault}
 use Rattle.movements.specs.declared.pair.Pair.{Pair}
 use Rattle.movements.specs.Pairs.{unused}
-use Rattle.movements.specs.Faults.{fault_of, or_later, first_from, first_fault}
-use Rattle.movements.specs.Coding.{pair_bytes, with_pair_at, pair_at, pairs_from, pairs_in, length_pairs}
+use Rattle.movements.specs.Coding.{pair_bytes, with_pair_at, length_pairs}
 
 pairs_more : (ps : List Pair) (i : ℕ) → i < length ps → flat_map pair_bytes (take (i + 1) ps) ≡ flat_map pair_bytes (take i ps) ++ pair_bytes (get_or ps i unused)
 pairs_more ps i h = ap (flat_map pair_bytes) (take_more ps i unused h) ∙ sym (flat_map_more pair_bytes [] (take i ps) (get_or ps i unused))
@@ -45,38 +41,3 @@ write_all ps entry out i rest l m h e =
     ∙ put_next (flat_map pair_bytes ps) back (four_bytes rest) 128 4 (omega (arith, length_pairs ps)) refl (omega (arith, length-drop (8 * i) entry))
     ∙ ap (λ z. (flat_map pair_bytes ps ++ four_bytes rest) ++ z) (drop_all 4 back (omega (arith, length-drop (8 * i) entry)))
     ∙ append-nil _
-
--- the first i pairs are read, and the first fault is that of the pairs after them
-pub record Reading (b : List ℕ) (ps : List Pair) (i : ℕ) (before : Option Pair) : Type 0 where
-  pub long : length ps ≡ 16
-  pub pairs : (k : ℕ) → k < i → get_or ps k unused ≡ pair_at b k
-  pub faults : first_from i before (pairs_from b i (16 - i)) ≡ first_fault (pairs_in b)
-
-pub read_none : (b : List ℕ) (ps : List Pair) → length ps ≡ 16 → Reading b ps 0 None
-unfolding pairs_in
-read_none b ps l = record { long = l; pairs = λ k h. absurd (omega arith); faults = refl }
-
-module _ (b : List ℕ) (ps : List Pair) (i : ℕ) (before : Option Pair) (p : Pair) (was : Reading b ps i before) (h : i < 16) (e : p ≡ pair_at b i) where
-  next : or_later i (fault_of p before) (first_from (i + 1) (Some p) (pairs_from b (i + 1) (16 - (i + 1)))) ≡ first_fault (pairs_in b)
-  unfolding first_from
-  next =
-      let n : suc (16 - (i + 1)) ≡ 16 - i = omega arith in
-      ap (λ q. first_from i before (q ∷ pairs_from b (i + 1) (16 - (i + 1)))) e ∙ ap (λ m. first_from i before (pairs_from b i m)) n ∙ was.faults
-
-  pub read_more : fault_of p before ≡ None → Reading b (set ps i p) (i + 1) (Some p)
-  read_more f = record {
-    long = length-set ps i p ∙ was.long;
-    pairs = rw e (fill_by_more (pair_at b) ps i unused (omega (arith, was.long)) was.pairs);
-    faults = ap (λ o. or_later i o (first_from (i + 1) (Some p) (pairs_from b (i + 1) (16 - (i + 1))))) (sym f) ∙ next;
-  }
-
-  pub read_fault : (f : PairFault) → fault_of p before ≡ Some f → first_fault (pairs_in b) ≡ Some (record { pair = i; fault = f })
-  read_fault f g = sym next ∙ ap (λ o. or_later i o (first_from (i + 1) (Some p) (pairs_from b (i + 1) (16 - (i + 1))))) g
-
-pub read_all : (b : List ℕ) (ps : List Pair) (i : ℕ) (before : Option Pair) → Reading b ps i before → i ≡ 16 → (ps ≡ pairs_in b) × (first_fault (pairs_in b) ≡ None)
-unfolding first_from pairs_in
-read_all b ps i before was h =
-    let n : 16 - i ≡ 0 = omega arith in (
-      fill_by_all (pair_at b) ps 16 unused was.long (λ k l. was.pairs k (omega arith)),
-      sym was.faults ∙ ap (λ m. first_from i before (pairs_from b i m)) n,
-    )

@@ -1,5 +1,5 @@
 -- Pairs of a key and a count: how two lists merge by key, which pairs are kept, and what goes to the rest.
-use Rattle.std.specs.Prelude.{◌≡◌, ℕ, zero, suc, ◌+◌, ◌-◌, ◌^◌, ◌<◌, min, cond, List, [], ◌∷◌, ◌==◌, nat_lt}
+use Rattle.std.specs.Prelude.{◌≡◌, ℕ, zero, suc, ◌+◌, ◌-◌, ◌^◌, ◌<◌, min, cond, List, [], ◌∷◌, Some, None, Option, ◌==◌, nat_lt}
 use Rattle.movements.specs.declared.pair.Pair.{Pair}
 
 -- a sum stops at 2 ^ 32 - 1
@@ -19,9 +19,20 @@ Used p = (0 < p.key) × (0 < p.count)
 abbrev pub both : Pair → Pair → Pair
 both x y = record { key = x.key; count = stop (x.count + y.count) }
 
--- the pair of the smaller key, with both counts where the keys are equal; an unused pair counts as none
-abbrev pub least : Pair → Pair → Pair
-least x y = cond (x.key == 0) y (cond (y.key == 0) x (cond (nat_lt x.key y.key) x (cond (nat_lt y.key x.key) y (both x y))))
+-- the pair of the smaller key, with both counts where the keys are equal
+abbrev pub lesser : Pair → Pair → Pair
+lesser x y = cond (nat_lt x.key y.key) x (cond (nat_lt y.key x.key) y (both x y))
+
+-- the first pair of two lists as one, by the keys of their first pairs
+abbrev pub least : Option Pair → Option Pair → Option Pair
+least None y = y
+least (Some x) None = Some x
+least (Some x) (Some y) = Some (lesser x y)
+
+-- what is left of a list when the pair of a key was taken
+abbrev pub after : List Pair → ℕ → List Pair
+after [] key = []
+after (x ∷ xs) key = cond (x.key == key) xs (x ∷ xs)
 
 -- x, and then what `more` gives, among the pairs of a list
 unfoldable pub among : Pair → (List Pair → List Pair) → List Pair → List Pair

@@ -1,17 +1,18 @@
 ghost use Rattle.std.specs.Prelude.{◌≡◌};
+ghost use Rattle.std.specs.Result.{result_err};
 ghost use Rattle.movements.specs.Faults.{number, fault_of};
 
 use crate::pair::Pair;
 
 /// What is wrong with a pair.
-#[derive(Clone, Copy)]
+#[derive(Clone, Copy, PartialEq, Eq, Debug)]
 pub enum PairFault {
     /// Of its key and its count one is 0 and the other is not.
-    HalfUsed,
+    HalfUsed = 40,
     /// It is used, and stands after an unused one.
-    AfterUnused,
+    AfterUnused = 41,
     /// It is used, and its key is not above the key before.
-    NotRising,
+    NotRising = 42,
 }
 
 impl PairFault {
@@ -19,28 +20,24 @@ impl PairFault {
     pub fn number(self) -> u8
         ensures { result ≡ number self }
     {
-        match self {
-            PairFault::HalfUsed => 40,
-            PairFault::AfterUnused => 41,
-            PairFault::NotRising => 42,
-        }
+        self as u8
     }
 }
 
-/// What is wrong with a pair that stands after another, or first. Its count is 0 exactly when its key is, and a used pair stands after used ones, whose keys are smaller.
-pub fn fault_of(pair: Pair, before: Option<Pair>) -> Option<PairFault>
-    ensures { result ≡ fault_of pair before }
+/// Asks of a pair that stands after another, or first: its count is 0 exactly when its key is, and a used pair stands after used ones, whose keys are smaller.
+pub fn check_pair(pair: Pair, before: Option<Pair>) -> Result<(), PairFault>
+    ensures { result_err result ≡ fault_of pair before }
 {
     if (pair.key == 0) != (pair.count == 0) {
-        return Some(PairFault::HalfUsed);
+        return Err(PairFault::HalfUsed);
     }
     if pair.key == 0 {
-        return None;
+        return Ok(());
     }
     match before {
-        None => None,
-        Some(last) if last.key == 0 => Some(PairFault::AfterUnused),
-        Some(last) if pair.key <= last.key => Some(PairFault::NotRising),
-        Some(_) => None,
+        None => Ok(()),
+        Some(last) if last.key == 0 => Err(PairFault::AfterUnused),
+        Some(last) if pair.key <= last.key => Err(PairFault::NotRising),
+        Some(_) => Ok(()),
     }
 }

@@ -1,36 +1,47 @@
-ghost use Rattle.std.specs.Prelude.{◌≡◌, ◌+◌, ◌≤◌, if◌then◌else◌};
+ghost use Rattle.std.specs.Prelude.{◌≡◌};
 ghost use Rattle.movements.specs.Gathering.{start, with_pair};
-ghost use Rattle.movements.specs.Pairs.{least};
+ghost use Rattle.movements.specs.Pairs.{lesser, least, after};
 
 use crate::pair::{PAIRS, Pair};
+use std::cmp::Ordering;
 
-/// The pair of the smaller key, with both counts where the keys are equal; an unused pair counts as none.
-pub fn least(left: Pair, right: Pair) -> Pair
-    ensures { result ≡ least left right }
+// The pair of the smaller key, with both counts where the keys are equal.
+fn lesser(one: Pair, other: Pair) -> Pair
+    ensures { result ≡ lesser one other }
 {
-    if left.key == 0 {
-        right
-    } else if right.key == 0 || left.key < right.key {
-        left
-    } else if right.key < left.key {
-        right
-    } else {
-        Pair {
-            key: left.key,
-            count: left.count.saturating_add(right.count),
-        }
+    match one.key.cmp(&other.key) {
+        Ordering::Less => one,
+        Ordering::Greater => other,
+        Ordering::Equal => Pair {
+            key: one.key,
+            count: one.count.saturating_add(other.count),
+        },
     }
 }
 
-/// The index after one whose pair was taken, else the index itself.
-pub fn past(index: usize, taken: bool) -> usize
-    requires { index ≤ 16 }
-    ensures { result ≡ (if taken then index + 1 else index) }
+/// The first pair of two lists as one, by the keys of their first pairs.
+pub fn least(left: Option<Pair>, right: Option<Pair>) -> Option<Pair>
+    ensures { result ≡ least left right }
 {
-    if taken { index + 1 } else { index }
+    match (left, right) {
+        (None, _) => right,
+        (_, None) => left,
+        (Some(one), Some(other)) => Some(lesser(one, other)),
+    }
+}
+
+/// What is left of a list when the pair of a key was taken: all but its first pair, if that has the key.
+pub fn after(pairs: &[Pair], key: u32) -> &[Pair]
+    ensures { result.now ≡ after pairs.now key }
+{
+    match pairs {
+        [first, rest @ ..] if first.key == key => rest,
+        _ => pairs,
+    }
 }
 
 /// What a join has gathered so far, from the smallest key on: the first sixteen pairs are kept, and the counts of all others go to the rest.
+// A length beside an array: tallies are copied, and lists that know their length are not.
 #[derive(Clone, Copy)]
 pub struct Gathered {
     pub pairs: [Pair; PAIRS],

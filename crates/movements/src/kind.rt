@@ -1,10 +1,9 @@
-ghost use Rattle.std.specs.Prelude.{◌≡◌, slice_index_or};
+ghost use Rattle.std.specs.Prelude.{◌≡◌, ◌==◌, position};
 ghost use Rattle.movements.specs.Kind.{movements, movements_lawful};
-ghost use Rattle.movements.specs.Pairs.{unused};
+ghost use Rattle.movements.specs.Pairs.{used};
 
-use crate::coding::{pair_at, put_pair, reported, rest_in};
-use crate::fault::fault_of;
-use crate::join::{Gathered, least, past};
+use crate::coding::{check_pairs, pairs_in, put_pair, rest_in};
+use crate::join::{Gathered, after, least};
 use crate::kept::Movements;
 use crate::pair::{PAIRS, Pair};
 use big_endian::BigEndian;
@@ -12,15 +11,18 @@ use tally::fault::Fault;
 use tally::kind::Tally;
 
 impl Movements {
-    /// The pair of an index; past the last, an unused one.
-    fn pair(&self, index: usize) -> Pair
-        ensures { result ≡ slice_index_or self.now.pairs index unused }
+    // The index of the first unused pair.
+    fn first_unused(&self) -> Option<usize>
+        ensures { result ≡ position (λ p. p.key == 0) self.now.pairs }
     {
-        if index < PAIRS {
-            self.pairs[index]
-        } else {
-            Pair::UNUSED
-        }
+        self.pairs.iter().position(|pair| pair.key == 0)
+    }
+
+    /// The used pairs.
+    fn used(&self) -> &[Pair]
+        ensures { result.now ≡ used self.now.pairs }
+    {
+        &self.pairs[..self.first_unused().unwrap_or(PAIRS)]
     }
 }
 
@@ -42,21 +44,16 @@ impl Tally for Movements {
 
     fn joined(&self, other: &Movements) -> Movements {
         let mut gathered = Gathered::start(self.rest, other.rest);
-        let mut i = 0;
-        let mut j = 0;
-        loop {
-            let left = self.pair(i);
-            let right = other.pair(j);
-            let next = least(left, right);
-            if next.key == 0 {
-                return Movements {
-                    pairs: gathered.pairs,
-                    rest: gathered.rest,
-                };
-            }
-            i = past(i, left.key == next.key);
-            j = past(j, right.key == next.key);
+        let mut left = self.used();
+        let mut right = other.used();
+        while let Some(next) = least(left.first().copied(), right.first().copied()) {
+            left = after(left, next.key);
+            right = after(right, next.key);
             gathered.add(next);
+        }
+        Movements {
+            pairs: gathered.pairs,
+            rest: gathered.rest,
         }
     }
 
@@ -69,23 +66,15 @@ impl Tally for Movements {
     }
 
     fn write(&self, out: &mut [u8]) {
-        for i in 0..PAIRS {
-            put_pair(out, i, self.pairs[i]);
+        for (i, pair) in self.pairs.iter().enumerate() {
+            put_pair(out, i, *pair);
         }
         self.rest.write_at(out, 128);
     }
 
     fn read(bytes: &[u8]) -> Result<Movements, Fault> {
-        let mut pairs = [Pair::UNUSED; PAIRS];
-        let mut before = None;
-        for i in 0..PAIRS {
-            let pair = pair_at(bytes, i);
-            if let Some(fault) = fault_of(pair, before) {
-                return Err(reported(fault, i));
-            }
-            pairs[i] = pair;
-            before = Some(pair);
-        }
+        let pairs = pairs_in(bytes);
+        check_pairs(&pairs)?;
         Ok(Movements {
             pairs,
             rest: rest_in(bytes),

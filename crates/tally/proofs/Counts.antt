@@ -1,16 +1,24 @@
 -- What the loops over the bands keep, and what they end with.
-use Rattle.std.proofs.Common.{◌≡◌, ℕ, ◌+◌, ◌*◌, ◌<◌, ◌≤◌, true, false, cond, ◌&&◌, eqb, List, [], ◌++◌, length, get_or, take, drop, set, replicate, sym, refl, ap, ◌∙◌, ap₂, ⊎_elim, append-nil, arith, length-drop}
+use Rattle.std.proofs.Common.{◌≡◌, ℕ, ◌+◌, ◌-◌, ◌*◌, ◌<◌, ◌≤◌, true, false, cond, ◌&&◌, eqb, leb, List, [], ◌++◌, length, get_or, take, drop, set, replicate, sym, refl, ap, ◌∙◌, ap₂, ⊎_elim, append-nil, arith, length-drop}
 use borrow.Rule.Slice.PartMut.{put_mid}
 use Rattle.std.specs.List.{flat_map}
 use Rattle.std.proofs.lemmas.List.{get_or-set_same, get_or-set_other, get_or-replicate, take_more, take_all, drop-drop, drop_all, length-take-le, flat_map_more, at_drop_more, at_drop_all}
-use Rattle.std.proofs.lemmas.Bool.{eq-eqb, ne_eqb, cases_eq}
+use Rattle.std.specs.List.Sorted.{IsPartitionedBy, IsPartitionPoint}
+use Rattle.std.proofs.lemmas.Grind.{get_or_default_zero}
+use Rattle.std.proofs.lemmas.Bool.{eq-eqb, ne_eqb, cases_eq, cases_lt, le-leb, leb-true, leb-false}
 use Rattle.big_endian.specs.BigEndian.{four_bytes}
 use Rattle.big_endian.proofs.Parts.{put_next}
 use Rattle.tally.specs.Queues.{edges, stop, blank, LastBand, edges_rise, band_of, band_is_last, one_last_band, length_fours}
 
--- where the search for a band ends
-pub last_here : (n at : ℕ) → at < 16 → get_or edges at 0 ≤ n → (at + 1 < 16 → n < get_or edges (at + 1) 0) → LastBand n at
-last_here n at h r f = record { within = h; reached = r; last = λ j k l. omega (arith, f (omega arith), edges_rise (at + 1) j (omega arith) l) }
+-- the edges rise, so those that a queue reaches come first
+pub edges_split : (n : ℕ) → IsPartitionedBy (λ e. leb e n) edges
+edges_split n i j d h l e = le-leb _ _ (omega (arith, leb-true _ _ e, edges_rise i j h l, get_or_default_zero edges i d (omega arith), get_or_default_zero edges j d l))
+
+-- where they end is past the band
+pub last_before : (n i : ℕ) → i ≤ 16 → IsPartitionPoint (λ e. leb e n ≡ true) (λ e. leb e n ≡ false) edges i → (0 < i) × LastBand n (i - 1)
+last_before n i h p =
+    let some : 0 < i = ⊎_elim (λ (s : 0 < i). s) (λ (z : i ≤ 0). absurd (omega (arith, leb-false _ _ (p.1 0 0 z (omega arith))))) (cases_lt 0 i) in
+    (some, record { within = omega arith; reached = leb-true _ _ (p.0 (i - 1) 0 (omega arith) (omega arith)); last = λ j k l. leb-false _ _ (p.1 j 0 (omega arith) l) })
 
 pub is_band : (n at : ℕ) → LastBand n at → at ≡ band_of n
 is_band n at l = one_last_band n at (band_of n) l (band_is_last n)
@@ -22,23 +30,6 @@ one_at k band h l =
     ⊎_elim (λ (e : k ≡ band). rw (eq-eqb k band e) (ap (λ j. get_or (set zeros band 1) j 0) e ∙ get_or-set_same zeros band 1 0 l))
     (λ (d : k ≡ band → ⊥). rw (ne_eqb k band d) (get_or-set_other zeros band k 1 0 d ∙ get_or-replicate 16 k 0 0 h))
     (cases_eq k band)
-
--- the test of each count
-pub blank_more : (ns : List ℕ) (i : ℕ) → i < length ns → get_or ns i 0 ≡ 0 → blank (drop (i + 1) ns) ≡ blank (drop i ns)
-unfolding blank
-blank_more ns i h e =
-    let s : blank (drop i ns) ≡ (eqb (get_or ns i 0) 0 && blank (drop (i + 1) ns)) = at_drop_more blank ns i 0 h in
-    sym (s ∙ ap (λ t. t && blank (drop (i + 1) ns)) (eq-eqb (get_or ns i 0) 0 e))
-
-pub blank_not : (ns : List ℕ) (i : ℕ) → i < length ns → (get_or ns i 0 ≡ 0 → ⊥) → blank (drop i ns) ≡ false
-unfolding blank
-blank_not ns i h d =
-    let s : blank (drop i ns) ≡ (eqb (get_or ns i 0) 0 && blank (drop (i + 1) ns)) = at_drop_more blank ns i 0 h in
-    s ∙ ap (λ t. t && blank (drop (i + 1) ns)) (ne_eqb (get_or ns i 0) 0 d)
-
-pub blank_all : (ns : List ℕ) (i : ℕ) → length ns ≤ i → blank (drop i ns) ≡ true
-unfolding blank
-blank_all ns i h = at_drop_all blank ns i h
 
 -- writing the counts one after another
 fours_more : (ns : List ℕ) (i : ℕ) → i < length ns → flat_map four_bytes (take (i + 1) ns) ≡ flat_map four_bytes (take i ns) ++ four_bytes (get_or ns i 0)

@@ -4,7 +4,7 @@ use Rattle.std.proofs.Common.{ap, sym, ◌∙◌, ⊎_elim, arith, lit≤, lit<,
 use mathlib.Core.HLevel.{is_prop→PathP, ×_prop, Π_prop}
 use Rattle.std.proofs.Math.Bridge.{le_prop}
 use Rattle.std.proofs.Math.Nat.{ℕ_set}
-use Rattle.std.specs.List.{range_with_len, flat_map}
+use Rattle.std.specs.List.{range_with_len, flat_map, list_all}
 use Rattle.std.proofs.lemmas.List.FromFn.{length-map-range_with_len, get_or-map-range_with_len}
 use Rattle.std.proofs.lemmas.List.{ext_get_or, get_or_past, take_all, drop-drop}
 use Rattle.std.proofs.lemmas.Bool.{eqb-true, leb-true, leb-false, cond_both, and_parts, cases_lt}
@@ -49,9 +49,8 @@ abbrev pub written_in : List ℕ → ℕ → ℕ
 written_in bytes band = four bytes (4 * band)
 
 -- no count is above 0
-unfoldable pub blank : List ℕ → Bool
-blank [] = true
-blank (n ∷ ns) = n == 0 && blank ns
+abbrev pub blank : List ℕ → Bool
+blank = list_all (λ n. n == 0)
 
 abbrev pub queues : Kind Queues
 queues = record {
@@ -78,13 +77,12 @@ same_by_band x f h =
 
 -- the test for empty
 blank_true : (ns : List ℕ) → blank ns ≡ true → (i : ℕ) → slice_index ns i ≡ 0
-unfolding blank
 blank_true [] e i = refl
 blank_true (n ∷ ns) e zero = eqb-true n 0 (and_parts (n == 0) (blank ns) e).0
 blank_true (n ∷ ns) e (suc i) = blank_true ns (and_parts (n == 0) (blank ns) e).1 i
 
 blank_empty : blank (counts_by (λ _. 0)) ≡ true
-unfolding blank counts_by
+unfolding counts_by
 blank_empty = refl
 
 -- counts as bytes

@@ -15,24 +15,12 @@ use big_endian::BigEndian;
 /// The lower edges of the bands, in vehicles.
 pub const EDGES: [u32; 16] = [0, 1, 2, 3, 4, 5, 6, 8, 10, 13, 16, 20, 25, 32, 40, 50];
 
-// Whether a queue is as long as the edge of a band.
-fn reaches(length: u32, band: usize) -> bool
-    requires { band < 16 }
-    ensures { result ≡ nat_le (slice_index edges band) length }
-{
-    EDGES[band] <= length
-}
-
 /// The band of a queue of so many vehicles: the last whose edge is at most that.
 pub fn band(length: u32) -> usize
     ensures value { result ≡ band_of length }
     ensures last { LastBand length result }
 {
-    let mut at = 0;
-    while at < 15 && reaches(length, at + 1) {
-        at += 1;
-    }
-    at
+    EDGES.partition_point(|edge| *edge <= length) - 1
 }
 
 impl Queues {
@@ -61,51 +49,17 @@ impl Queues {
         Queues::of(counts)
     }
 
-    // The counts of both tallies in a band, as one.
-    fn sum_in(&self, other: &Queues, band: usize) -> u32
-        requires { band < 16 }
-        ensures { result ≡ stop (count_in self.now band + count_in other.now band) }
-    {
-        self.counts[band].saturating_add(other.counts[band])
-    }
-
-    // Whether nothing was counted in a band.
-    fn none_in(&self, band: usize) -> bool
-        requires { band < 16 }
-        ensures { result ≡ (count_in self.now band == 0) }
-    {
-        self.counts[band] == 0
-    }
-
     // The tally that sixty-four bytes write.
     fn of_bytes(bytes: &[u8]) -> Queues
         requires { length bytes.now ≡ 64 }
         ensures { result ≡ by_band (written_in bytes.now) }
     {
         let mut counts = [0; 16];
-        for band in 0..16 {
-            counts[band] = count_at(bytes, band);
+        for (band, count) in counts.iter_mut().enumerate() {
+            *count = u32::read_at(bytes, 4 * band);
         }
         Queues::of(counts)
     }
-
-    // Writes the count of a band into its four bytes; the others stay.
-    fn put_count(&self, out: &mut [u8], band: usize)
-        requires width { length out.old ≡ 64 }
-        requires within { band < 16 }
-        ensures { out.new ≡ put_mid (4 * band) 4 out.old (four_bytes (count_in self.now band)) }
-    {
-        self.counts[band].write_at(out, 4 * band);
-    }
-}
-
-// The count of a band in the bytes of a tally.
-fn count_at(bytes: &[u8], band: usize) -> u32
-    requires width { length bytes.now ≡ 64 }
-    requires within { band < 16 }
-    ensures { result ≡ written_in bytes.now band }
-{
-    u32::read_at(bytes, 4 * band)
 }
 
 impl Tally for Queues {
@@ -122,20 +76,15 @@ impl Tally for Queues {
     }
 
     fn joined(&self, other: &Queues) -> Queues {
-        let mut counts = [0; 16];
-        for band in 0..16 {
-            counts[band] = self.sum_in(other, band);
+        let mut counts = self.counts;
+        for (band, count) in counts.iter_mut().enumerate() {
+            *count = count.saturating_add(other.counts[band]);
         }
         Queues::of(counts)
     }
 
     fn is_empty(&self) -> bool {
-        for band in 0..16 {
-            if !self.none_in(band) {
-                return false;
-            }
-        }
-        true
+        self.counts.iter().all(|count| *count == 0)
     }
 
     fn width() -> usize {
@@ -143,8 +92,8 @@ impl Tally for Queues {
     }
 
     fn write(&self, out: &mut [u8]) {
-        for band in 0..16 {
-            self.put_count(out, band);
+        for (band, count) in self.counts.iter().enumerate() {
+            count.write_at(out, 4 * band);
         }
     }
 

@@ -1,11 +1,16 @@
-use Rattle.std.proofs.Common.{sym, arith}
-use Rattle.std.proofs.lemmas.Bool.{leb-false}
-use Rattle.tally.proofs.Counts.{last_here, is_band}
+use Rattle.std.proofs.Common.{rules, leb, arith}
+use Rattle.std.proofs.lemmas.List.Sorted.{IsPartitionPoint-from_clause}
+use Rattle.tally.specs.Queues.{edges, LastBand}
+use Rattle.tally.proofs.Counts.{edges_split, last_before, is_band}
 use Rattle.tally.proofs.queues.band.Goals as goal
 
-pub returns-else-reaches : goal.returns-else-reaches
-returns-else-reaches c =
-    let l = last_here c.args.length c.loop-at.at c.loop-at.invariant.0 c.loop-at.invariant.1 (λ h. leb-false _ _ (sym c.if-reaches.ensures)) in record { value = is_band _ _ l; last = l }
+pub overflow_sub-result : goal.overflow_sub-result
+overflow_sub-result c =
+    let p = IsPartitionPoint-from_clause (λ e. leb e c.args.length) edges c.partition_point.result c.partition_point.ensures.partitioned (edges_split c.args.length) (λ a r f' k. search rules) in
+    (last_before c.args.length c.partition_point.result c.partition_point.ensures.bound p).0
 
-pub returns-after-loop-at : goal.returns-after-loop-at
-returns-after-loop-at c = let l = last_here c.args.length c.loop-at.at c.loop-at.invariant.0 c.loop-at.invariant.1 (λ h. absurd (omega arith)) in record { value = is_band _ _ l; last = l }
+pub returns : goal.returns
+returns c =
+    let p = IsPartitionPoint-from_clause (λ e. leb e c.args.length) edges c.partition_point.result c.partition_point.ensures.partitioned (edges_split c.args.length) (λ a r f' k. search rules) in
+    let l = (last_before c.args.length c.partition_point.result c.partition_point.ensures.bound p).1 in
+    record { value = is_band _ _ l; last = l }

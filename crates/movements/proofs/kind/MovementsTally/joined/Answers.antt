@@ -1,39 +1,27 @@
-use Rattle.std.proofs.Common.{◌≡◌, ◌+◌, sym, subst}
+use Rattle.std.proofs.Common.{◌≡◌, ◌+◌, ◌∙◌, ap₂, ◌∷◌, sym, subst}
+use Rattle.movements.specs.Pairs.{used, least, merged}
 use Rattle.movements.specs.Join.{movements_same, join}
 use Rattle.movements.proofs.Lawful.{lawful_as}
-use Rattle.movements.proofs.Walk.{Going, begun, turn, Turned, over, ended, gone_on}
+use Rattle.movements.proofs.Walk.{Going, turn, over, ended, gone_on}
 use Rattle.movements.proofs.kind.MovementsTally.joined.Goals as goal
-use Rattle.movements.proofs.kind.MovementsTally.joined.Goals.{Then-next-eq0, After-past-j}
+use Rattle.movements.proofs.kind.MovementsTally.joined.Goals.{In_default}
 
-pub loop-left-init : goal.loop-left-init
-loop-left-init c =
+pub loop-next-preserved : goal.loop-next-preserved
+loop-next-preserved c =
     let x = c.args.self.now in
     let y = c.args.other.now in
-    subst (Going x.pairs y.pairs (x.rest + y.rest) 0 0) (sym c.start-gathered.ensures) (begun x.pairs y.pairs x.rest y.rest)
+    let e = c.in-Some.ensures ∙ ap₂ least (c.copied.ensures ∙ c.first.ensures.value) (c.copied-in-loop-next.ensures ∙ c.first-in-loop-next.ensures.value) in
+    let to = turn c.loop-next.left.now c.loop-next.right.now c.in-Some.next e ∙ ap₂ (λ l r. c.in-Some.next ∷ merged l r) (sym c.after-left.ensures) (sym c.after-right.ensures) in
+    subst (Going (used x.pairs) (used y.pairs) (x.rest + y.rest) c.after-left.result.now c.after-right.result.now) (sym c.add.ensures)
+    (gone_on (used x.pairs) (used y.pairs) (x.rest + y.rest) _ _ _ _ c.loop-next.gathered c.in-Some.next c.loop-next.invariant to)
 
-turned : (c : goal.After-past-j) → Turned c.args.self.now.pairs c.args.other.now.pairs c.loop-left.i c.loop-left.j c.least-next.result c.past-i.result c.past-j.result
-turned c =
-    turn c.args.self.now.pairs c.args.other.now.pairs _ _ _ _ c.pair-left.result c.pair-right.result c.least-next.result c.args.self.now.full c.args.other.now.full
-    c.loop-left.invariant.left c.loop-left.invariant.right c.pair-left.ensures c.pair-right.ensures c.least-next.ensures c.if-next-eq0.false c.past-i.ensures c.past-j.ensures
-
-pub loop-left-preserved : goal.loop-left-preserved
-loop-left-preserved c =
-    let t = turned (goal.at.loop-left-preserved c).After-past-j in
-    let x = c.args.self.now in
-    let y = c.args.other.now in
-    subst (Going x.pairs y.pairs (x.rest + y.rest) c.past-i.result c.past-j.result) (sym c.add.ensures)
-    (gone_on x.pairs y.pairs (x.rest + y.rest) _ _ _ _ c.loop-left.gathered c.least-next.result c.loop-left.invariant t.to t.left t.right)
-
-pub loop-left-smaller : goal.loop-left-smaller
-loop-left-smaller c = (turned (goal.at.loop-left-smaller c).After-past-j).less
-
-done : (c : goal.Then-next-eq0) → (c.loop-left.gathered.pairs ≡ (join c.args.self.now c.args.other.now).pairs) × (c.loop-left.gathered.rest ≡ (join c.args.self.now c.args.other.now).rest)
+done : (c : goal.In_default) → (c.loop-next.gathered.pairs ≡ (join c.args.self.now c.args.other.now).pairs) × (c.loop-next.gathered.rest ≡ (join c.args.self.now c.args.other.now).rest)
 done c =
-    ended _ _ _ _ _ _ c.loop-left.invariant
-    (over c.args.self.now.pairs c.args.other.now.pairs c.loop-left.i c.loop-left.j _ _ _ c.pair-left.ensures c.pair-right.ensures c.least-next.ensures c.if-next-eq0.true)
+    let e = c.in_default.ensures ∙ ap₂ least (c.copied.ensures ∙ c.first.ensures.value) (c.copied-in-loop-next.ensures ∙ c.first-in-loop-next.ensures.value) in
+    ended _ _ _ _ _ _ c.loop-next.invariant (over c.loop-next.left.now c.loop-next.right.now e)
 
 pub invariant_of-result : goal.invariant_of-result
-invariant_of-result c = let d = done (goal.at.invariant_of-result c).Then-next-eq0 in let k = lawful_as (join c.args.self.now c.args.other.now) _ _ d.0 d.1 in record { full = k.0; small = k.1; faultless = k.2; fits = k.3 }
+invariant_of-result c = let d = done (goal.at.invariant_of-result c).In_default in let k = lawful_as (join c.args.self.now c.args.other.now) _ _ d.0 d.1 in record { full = k.0; small = k.1; faultless = k.2; fits = k.3 }
 
-pub returns-then-next-eq0 : goal.returns-then-next-eq0
-returns-then-next-eq0 c = let d = done (goal.at.returns-then-next-eq0 c).Then-next-eq0 in movements_same _ _ d.0 d.1
+pub returns : goal.returns
+returns c = let d = done (goal.at.returns c).In_default in movements_same _ _ d.0 d.1

@@ -1,26 +1,24 @@
-use Rattle.std.proofs.Common.{Err, sym, refl, ap, ◌∙◌, arith}
-use Rattle.movements.specs.Coding.{tally_in, read_ok, read_err}
+use Rattle.std.proofs.Common.{◌≡◌, None, sym, ap, ◌∙◌}
+use Rattle.std.proofs.lemmas.Result.{err_from_is_err_and}
+use Rattle.movements.specs.Faults.{first_fault}
+use Rattle.movements.specs.Coding.{pairs_in, tally_in, read_ok}
 use Rattle.movements.proofs.Lawful.{lawful_as}
-use Rattle.movements.proofs.Octets.{read_none, read_more, read_fault, read_all}
+use Rattle.movements.proofs.Asking.{none_told, some_told}
 use Rattle.movements.proofs.kind.MovementsTally.read.Goals as goal
+use Rattle.movements.proofs.kind.MovementsTally.read.Goals.{In_ok-check_pairs}
 
-pub loop-i-init : goal.loop-i-init
-loop-i-init c = read_none _ _ refl
+faultless : (c : goal.In_ok-check_pairs) → first_fault (pairs_in c.args.bytes.now) ≡ None
+faultless c = ap first_fault (sym c.pairs_in-pairs.ensures) ∙ none_told _ c.in_ok-check_pairs.ensures
 
-pub loop-i-preserved : goal.loop-i-preserved
-loop-i-preserved c = read_more _ _ _ _ _ c.loop-i.invariant c.loop-i-test.true c.pair_at-pair.ensures (sym c.in_default.ensures)
-
-pub returns-in-Some : goal.returns-in-Some
-returns-in-Some c =
-    let f = read_fault _ _ _ _ _ c.loop-i.invariant c.loop-i-test.true c.pair_at-pair.ensures c.in-Some.fault (sym c.in-Some.ensures) in
-    ap Err c.reported.ensures ∙ sym (read_err c.args.bytes.now _ f)
+pub returns-in_err-check_pairs : goal.returns-in_err-check_pairs
+returns-in_err-check_pairs c =
+    let p = err_from_is_err_and c.from_residual.result c.from_residual.ensures.1 in
+    rw (p.1, p.2) (some_told c.args.bytes.now _ _ c.pairs_in-pairs.ensures c.in_err-check_pairs.ensures)
 
 pub invariant_of-result : goal.invariant_of-result
 invariant_of-result c =
-    let a = read_all _ _ _ _ c.loop-i.invariant (omega arith) in
-    let k = lawful_as (tally_in c.args.bytes.now a.1) _ _ a.0 c.rest_in.ensures in record { full = k.0; small = k.1; faultless = k.2; fits = k.3 }
+    let f = faultless (goal.at.invariant_of-result c).In_ok-check_pairs in
+    let k = lawful_as (tally_in c.args.bytes.now f) _ _ c.pairs_in-pairs.ensures c.rest_in.ensures in record { full = k.0; small = k.1; faultless = k.2; fits = k.3 }
 
 pub returns : goal.returns
-returns c =
-    let a = read_all _ _ _ _ c.loop-i.invariant (omega arith) in
-    sym (read_ok c.args.bytes.now _ a.1 a.0 c.rest_in.ensures)
+returns c = sym (read_ok c.args.bytes.now _ (faultless (goal.at.returns c).In_ok-check_pairs) c.pairs_in-pairs.ensures c.rest_in.ensures)

@@ -7,7 +7,7 @@ use Rattle.tally.proofs.queues.banded.Queues.of_bytes.Goals as goal
 pub loop-band-preserved : goal.loop-band-preserved
 loop-band-preserved c = (
   length-set _ _ _ ∙ c.loop-band.invariant.0,
-  rw c.count_at.ensures (fill_by_more (written_in c.args.bytes.now) c.loop-band.counts c.loop-band.band 0 (omega (arith, c.loop-band.invariant.0)) c.loop-band.invariant.1),
+  rw c.read_at.ensures (fill_by_more (written_in c.args.bytes.now) c.loop-band.count-items c.loop-band.band 0 (omega (arith, c.loop-band.invariant.0)) c.loop-band.invariant.1),
 )
 
 pub returns : goal.returns
