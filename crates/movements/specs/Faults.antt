@@ -1,7 +1,8 @@
 -- What is wrong with a pair, and the first fault of a list of pairs.
-use Rattle.std.specs.Prelude.{◌≡◌, ℕ, ◌+◌, ◌^◌, ◌<◌, false, cond, List, [], ◌∷◌, is_some, Some, None, Option, ◌==◌, nat_lt, slice_index_or}
+use Rattle.std.specs.Prelude.{◌≡◌, ℕ, ◌+◌, ◌^◌, ◌<◌, false, cond, List, [], ◌∷◌, is_some, Some, None, Option, Ok, Err, Result, ◌==◌, nat_lt, slice_index_or}
 use Rattle.movements.specs.declared.fault.PairFault.{PairFault}
 use Rattle.movements.specs.declared.fault.PairFault.TheVariants.{HalfUsed, AfterUnused, NotRising}
+use Rattle.movements.specs.declared.fault.UnknownFault.{UnknownFault}
 use Rattle.movements.specs.declared.pair.Pair.{Pair}
 use Rattle.movements.specs.Pairs.{unused}
 
@@ -10,6 +11,11 @@ abbrev pub number : PairFault → ℕ
 number HalfUsed = 40
 number AfterUnused = 41
 number NotRising = 42
+
+-- a number is read as the fault that has it, and refused where none has
+abbrev pub Numbered : ℕ → Result PairFault UnknownFault → Type 0
+Numbered n (Ok fault) = n ≡ number fault
+Numbered n (Err unknown) = (unknown.0 ≡ n) × ((fault : PairFault) → n ≡ number fault → ⊥)
 
 -- what is wrong with a used pair that stands after another, or first
 abbrev pub used_fault : Pair → Option Pair → Option PairFault

@@ -1,8 +1,9 @@
 ghost use Rattle.std.specs.Prelude.{◌≡◌};
 ghost use Rattle.std.specs.Result.{result_err};
-ghost use Rattle.movements.specs.Faults.{number, fault_of};
+ghost use Rattle.movements.specs.Faults.{number, Numbered, fault_of};
 
 use crate::pair::Pair;
+use std::fmt;
 
 /// What is wrong with a pair.
 #[derive(Clone, Copy, PartialEq, Eq, Debug)]
@@ -21,6 +22,35 @@ impl PairFault {
         ensures { result ≡ number self }
     {
         self as u8
+    }
+}
+
+impl fmt::Display for PairFault {
+    fn fmt<W: fmt::Write>(&self, f: &mut fmt::Formatter<W>) -> fmt::Result {
+        f.write_str(match self {
+            PairFault::HalfUsed => "of a key and its count, one is 0 and the other is not",
+            PairFault::AfterUnused => "a used pair stands after an unused one",
+            PairFault::NotRising => "the keys do not rise",
+        })
+    }
+}
+
+/// A number that no fault has.
+#[derive(Clone, Copy, PartialEq, Eq, Debug)]
+pub struct UnknownFault(pub u8);
+
+impl TryFrom<u8> for PairFault {
+    type Error = UnknownFault;
+
+    ghost try_from_gives = { Numbered };
+
+    fn try_from(number: u8) -> Result<Self, UnknownFault> {
+        match number {
+            40 => Ok(PairFault::HalfUsed),
+            41 => Ok(PairFault::AfterUnused),
+            42 => Ok(PairFault::NotRising),
+            _ => Err(UnknownFault(number)),
+        }
     }
 }
 

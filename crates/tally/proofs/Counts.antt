@@ -1,14 +1,14 @@
 -- What the loops over the bands keep, and what they end with.
-use Rattle.std.proofs.Common.{◌≡◌, ℕ, ◌+◌, ◌-◌, ◌*◌, ◌<◌, ◌≤◌, true, false, cond, ◌&&◌, eqb, leb, List, [], ◌++◌, length, get_or, take, drop, set, replicate, sym, refl, ap, ◌∙◌, ap₂, ⊎_elim, append-nil, arith, length-drop}
+use Rattle.std.proofs.Common.{◌≡◌, ℕ, ◌+◌, ◌-◌, ◌*◌, ◌<◌, ◌≤◌, true, false, cond, eqb, leb, List, [], ◌++◌, length, get_or, take, drop, set, replicate, sym, refl, ap, ◌∙◌, ap₂, ⊎_elim, append-nil, arith, length-drop}
 use borrow.Rule.Slice.PartMut.{put_mid}
 use Rattle.std.specs.List.{flat_map}
-use Rattle.std.proofs.lemmas.List.{get_or-set_same, get_or-set_other, get_or-replicate, take_more, take_all, drop-drop, drop_all, length-take-le, flat_map_more, at_drop_more, at_drop_all}
+use Rattle.std.proofs.lemmas.List.{get_or-set_same, get_or-set_other, get_or-replicate, take_more, take_all, drop-drop, drop_all, length-take-le, flat_map_more}
 use Rattle.std.specs.List.Sorted.{IsPartitionedBy, IsPartitionPoint}
 use Rattle.std.proofs.lemmas.Grind.{get_or_default_zero}
 use Rattle.std.proofs.lemmas.Bool.{eq-eqb, ne_eqb, cases_eq, cases_lt, le-leb, leb-true, leb-false}
 use Rattle.big_endian.specs.BigEndian.{four_bytes}
 use Rattle.big_endian.proofs.Parts.{put_next}
-use Rattle.tally.specs.Queues.{edges, stop, blank, LastBand, edges_rise, band_of, band_is_last, one_last_band, length_fours}
+use Rattle.tally.specs.Queues.{edges, stop, LastBand, edges_rise, band_of, band_is_last, one_last_band, length_fours}
 
 -- the edges rise, so those that a queue reaches come first
 pub edges_split : (n : ℕ) → IsPartitionedBy (λ e. leb e n) edges

@@ -10,7 +10,7 @@ pub trait Tally: Copy {
 
     ghost laws: { Lawful kind };
 
-    /// The byte that names the kind in frames and setups.
+    /// The byte that names the kind in frames and setups: no enum, since kinds are open.
     fn code() -> u8
         ensures { result ≡ kind.code };
 

@@ -1,6 +1,6 @@
-use Rattle.std.proofs.Common.{rules, leb, arith}
+use Rattle.std.proofs.Common.{rules, leb}
 use Rattle.std.proofs.lemmas.List.Sorted.{IsPartitionPoint-from_clause}
-use Rattle.tally.specs.Queues.{edges, LastBand}
+use Rattle.tally.specs.Queues.{edges}
 use Rattle.tally.proofs.Counts.{edges_split, last_before, is_band}
 use Rattle.tally.proofs.queues.band.Goals as goal
 
