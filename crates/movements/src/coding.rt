@@ -4,30 +4,21 @@ ghost use Rattle.std.specs.Option.{option_map};
 ghost use Rattle.movements.specs.Coding.{pair_at, pairs_in, rest_in, with_pair_at, reported};
 ghost use Rattle.movements.specs.Faults.{fault_of, first_fault};
 
-use crate::fault::{PairFault, check_pair};
+use crate::fault::check_pair;
 use crate::pair::{PAIRS, Pair};
 use big_endian::BigEndian;
 use std::array;
 use tally::fault::Fault;
-
-/// One of the sixteen pairs that bytes write.
-pub fn pair_at(bytes: &[u8], index: usize) -> Pair
-    requires width { length bytes.now ≡ 132 }
-    requires within { index < 16 }
-    ensures { result ≡ pair_at bytes.now index }
-{
-    Pair {
-        key: u32::read_at(bytes, 8 * index),
-        count: u32::read_at(bytes, 8 * index + 4),
-    }
-}
 
 /// The sixteen pairs that bytes write.
 pub fn pairs_in(bytes: &[u8]) -> [Pair; PAIRS]
     requires { length bytes.now ≡ 132 }
     ensures { result ≡ pairs_in bytes.now }
 {
-    array::from_fn(|index| pair_at(bytes, index))
+    array::from_fn(|index| Pair {
+        key: u32::read_at(bytes, 8 * index),
+        count: u32::read_at(bytes, 8 * index + 4),
+    })
 }
 
 /// The rest that bytes write.
@@ -53,7 +44,10 @@ fn check_at(index: usize, pair: Pair, before: Option<Pair>) -> Result<(), Fault>
     requires { index < 16 }
     ensures { result_err result ≡ option_map (λ f. reported (record { pair = index; fault = f })) (fault_of pair before) }
 {
-    check_pair(pair, before).map_err(|fault| reported(fault, index))
+    check_pair(pair, before).map_err(|fault| Fault {
+        number: fault.number(),
+        place: 8 * index,
+    })
 }
 
 /// Asks each pair in turn, and reports the first fault.
@@ -66,15 +60,4 @@ pub fn check_pairs(pairs: &[Pair; PAIRS]) -> Result<(), Fault>
         before = Some(*pair);
     }
     Ok(())
-}
-
-/// The fault of a pair as a reader reports it: the place is the pair's first byte.
-pub fn reported(fault: PairFault, index: usize) -> Fault
-    requires { index < 16 }
-    ensures { result ≡ reported (record { pair = index; fault = fault }) }
-{
-    Fault {
-        number: fault.number(),
-        place: 8 * index,
-    }
 }
