@@ -57,22 +57,22 @@ none_turn latest last None t e = refl
 none_turn latest last (Some n) t e = absurd (both_ways false refl (ap is_some e ∙ (first_found latest last nodes_max n t).0))
 
 -- the last one given after a session
-last_after : (s t : Board) (events : List Event) → Named (latest_of s) → Session board_line s events t → t.last ≡ last_given s.last events
+last_after : (s t : Board) (events : List Event) → Named (latest_of s) → Session board_line s events t → t.next ≡ last_given s.next events
 unfolding Named
-last_after s t [] h e = ap (λ (board : Board). board.last) e
+last_after s t [] h e = ap (λ (board : Board). board.next) e
 last_after s t (put frame ∷ events) h (u, p, rest) =
     last_after u t events (subst Named (sym (ap (λ (shown : Shown). shown.latest) p)) (named_put (latest_of s) frame h)) rest ∙ ap (λ (shown : Shown). last_given shown.last events) p
 last_after s t (took (Some frame) ∷ events) h (u, p, rest) =
     let mine = given_turn (latest_of s) (turn (shows s)) frame p.0 in
     last_after u t events (subst Named (sym (ap (λ (shown : Shown). shown.latest) p.1)) h) rest
     ∙ ap (λ (shown : Shown). last_given shown.last events) p.1
-    ∙ ap (λ o. last_given (or_else o s.last) events) mine.1
+    ∙ ap (λ o. last_given (or_else o s.next) events) mine.1
     ∙ ap (λ n. last_given n events) (sym (h mine.0 frame mine.2))
 last_after s t (took None ∷ events) h (u, p, rest) =
-    let nobody = none_turn (latest_of s) s.last (turn (shows s)) refl p.0 in
+    let nobody = none_turn (latest_of s) s.next (turn (shows s)) refl p.0 in
     last_after u t events (subst Named (sym (ap (λ (shown : Shown). shown.latest) p.1)) h) rest
     ∙ ap (λ (shown : Shown). last_given shown.last events) p.1
-    ∙ ap (λ o. last_given (or_else o s.last) events) nobody
+    ∙ ap (λ o. last_given (or_else o s.next) events) nobody
 
 -- what was put last by a sender names it, and was kept
 put_kept : (n : ℕ) (events : List Event) (frame : Frame) → latest_put n events ≡ Some frame → Postable frame × (sender_of frame ≡ n)
@@ -120,7 +120,7 @@ latest_since : (events : List Event) (t : Board) → Since events t → (n : ℕ
 latest_since events t since n =
     latest_after since.start t events since.session n ∙ otherwise_none (latest_put n events) (latest_of since.start n) (ap (λ (shown : Shown). shown.latest n) since.empty)
 
-last_since : (events : List Event) (t : Board) → Since events t → t.last ≡ last_given 0 events
+last_since : (events : List Event) (t : Board) → Since events t → t.next ≡ last_given 0 events
 last_since events t since =
     last_after since.start t events (named_none since.start since.empty) since.session ∙ ap (λ (shown : Shown). last_given shown.last events) since.empty
 
@@ -136,12 +136,12 @@ in_turn events t u since frame p n other e =
     let named = (put_kept mine.0 events frame (sym (latest_since events t since mine.0) ∙ mine.2)).1 in
     let kept = put_kept n events other e in
     let some : is_some (latest_of t n) ≡ true = ap is_some (latest_since events t since n ∙ e) in
-    let soon = soonest (latest_of t) t.last nodes_max mine.0 n t.round.2 mine.1 (omega (arith, kept.1, kept.0.1)) (omega (arith, kept.1, kept.0.2)) some in
-    subst (λ k. ahead k (sender_of frame) ≤ ahead k n) (last_since events t since) (subst (λ k. ahead t.last k ≤ ahead t.last n) (sym named) soon)
+    let soon = soonest (latest_of t) t.next nodes_max mine.0 n t.round.1 mine.1 (omega (arith, kept.1, kept.0.1)) (omega (arith, kept.1, kept.0.2)) some in
+    subst (λ k. ahead k (sender_of frame) ≤ ahead k n) (last_since events t since) (subst (λ k. ahead t.next k ≤ ahead t.next n) (sym named) soon)
 
 -- no sender has a frame when taking says none
 nobody_has : (s : Board) → None ≡ frame_of (latest_of s) (turn (shows s)) → (n : ℕ) → 1 ≤ n → n ≤ nodes_max → is_some (latest_of s n) ≡ false
-nobody_has s e n low high = none_found (latest_of s) s.last nodes_max n s.round.2 (none_turn (latest_of s) s.last (turn (shows s)) refl e) low high (omega arith)
+nobody_has s e n low high = none_found (latest_of s) s.next nodes_max n s.round.1 (none_turn (latest_of s) s.next (turn (shows s)) refl e) low high (omega arith)
 
 none_put : (events : List Event) (t u : Board) → Since events t → board_line.takes t None u → (frame : Frame) → In frame (sent events) → Postable frame → ⊥
 none_put events t u since p frame h k =

@@ -1,10 +1,10 @@
 -- The board: its rule, and the frames in its places.
-use Rattle.std.specs.Prelude.{◌≡◌, ℕ, zero, suc, ◌+◌, ◌%◌, ◌≤◌, Bool, false, cond, ◌&&◌, List, [], ◌∷◌, replicate, is_some, Some, None, Option, ◌==◌, nat_le, slice_index, slice_index_or}
+use Rattle.std.specs.Prelude.{ℕ, zero, suc, ◌+◌, ◌%◌, ◌≤◌, Bool, cond, ◌&&◌, List, [], ◌∷◌, is_some, Some, None, Option, option_map, ◌==◌, nat_le, slice_index, slice_index_or}
 use Rattle.protocol.specs.Limits.{nodes_max}
 use Rattle.line.specs.Frames.{Frame, Sized, is_sized}
 use Rattle.line.specs.Conduct.{Conduct}
 use Rattle.line.specs.Rule.{Rule, by_rule}
-use Rattle.line.specs.Held.{blank, content}
+use Rattle.line.specs.Held.{content}
 use Rattle.line.specs.declared.held.Held.{Held}
 use Rattle.line.specs.declared.board.Board.{Board}
 
@@ -44,11 +44,6 @@ unfoldable pub first_after : (ℕ → Option Frame) → ℕ → ℕ → Option �
 first_after latest last zero = None
 first_after latest last (suc n) = cond (is_some (latest (next_sender last))) (Some (next_sender last)) (first_after latest (next_sender last) n)
 
--- a sender that was found is one of 1 to 16
-abbrev pub Numbered : Option ℕ → Type 0
-Numbered (Some n) = (1 ≤ n) × (n ≤ nodes_max)
-Numbered None = Unit {0}
-
 -- the sender whose turn it is
 abbrev pub turn : Shown → Option ℕ
 turn shown = first_after shown.latest shown.last nodes_max
@@ -82,25 +77,16 @@ board_rule = record {
 }
 
 -- the latest frame of a sender, if one was heard: that of sender 1 is in the first place
-abbrev pub latest_in : List Held → List Bool → ℕ → Option Frame
-latest_in places heard zero = None
-latest_in places heard (suc at) = cond (slice_index_or heard at false) (Some (content (slice_index_or places at blank))) None
+abbrev pub latest_in : List (Option Held) → ℕ → Option Frame
+latest_in frames zero = None
+latest_in frames (suc at) = option_map content (slice_index_or frames at None)
 
 abbrev pub latest_of : Board → ℕ → Option Frame
-latest_of board = latest_in board.places board.heard
+latest_of board = latest_in board.frames
 
+-- the place after a sender's has the sender's number
 abbrev pub shows : Board → Shown
-shows board = record { latest = latest_of board; last = board.last }
+shows board = record { latest = latest_of board; last = board.next }
 
 abbrev pub board_line : Conduct Board
 board_line = by_rule shows board_rule
-
--- nothing was heard or given yet
-pub record Unheard (board : Board) : Type 0 where
-  pub heard : board.heard ≡ replicate nodes_max false
-  pub last : board.last ≡ 0
-
--- the frame of one sender was replaced
-pub record Posted (s : Board) (frame : Frame) (t : Board) : Type 0 where
-  pub latest : (n : ℕ) → latest_of t n ≡ posted (latest_of s) frame n
-  pub last : t.last ≡ s.last

@@ -1,12 +1,13 @@
 -- The board is honest.
-use Rattle.std.specs.Prelude.{◌≡◌, ℕ, zero, suc, ◌+◌, ◌<◌, ◌≤◌, Bool, true, false, cond, ◌&&◌, ◌⊎◌, List, get_or, is_some, Some, None, Option, ◌==◌, slice_index_or, refl}
+use Rattle.std.specs.Prelude.{◌≡◌, ℕ, zero, suc, ◌+◌, ◌<◌, ◌≤◌, Bool, true, false, cond, ◌&&◌, ◌⊎◌, List, is_some, Some, None, Option, option_map, ◌==◌, slice_index_or, refl}
 use Rattle.std.proofs.Common.{sym, subst, ap, ◌∙◌, inl, inr, ⊎_elim, arith}
 use Rattle.std.proofs.lemmas.Bool.{cases_lt}
 use Rattle.protocol.specs.Limits.{nodes_max}
 use Rattle.line.specs.Frames.{Frame, Sized, In}
 use Rattle.line.specs.Conduct.{Honest}
-use Rattle.line.specs.Held.{blank, content, held_sized}
+use Rattle.line.specs.Held.{content, held_sized}
 use Rattle.line.specs.Board.{Shown, board_line, is_postable, sender_of, posted, next_sender, first_after, turn, frame_of, prepended, frames_above, latest_of, shows}
+use Rattle.line.specs.declared.held.Held.{Held}
 use Rattle.line.specs.declared.board.Board.{Board}
 
 -- what is there after a choice was chosen, or was there before
@@ -61,15 +62,13 @@ first_found latest last (suc n) m e =
     (chosen (is_some (latest (next_sender last))) (next_sender last) m (first_after latest (next_sender last) n) e)
 
 -- what the places hold has the length of a frame
-held_or_none : (b : Bool) (x frame : Frame) → cond b (Some x) None ≡ Some frame → x ≡ frame
-held_or_none true x frame e = cc
-held_or_none false x frame e = let z : ◌≡◌ {A = ℕ} 0 1 = cc in absurd (omega arith)
+held_or_none : (place : Option Held) (frame : Frame) → option_map content place ≡ Some frame → Sized frame
+held_or_none (Some held) frame e = let same : content held ≡ frame = cc in subst Sized same (held_sized held)
+held_or_none None frame e = let z : ◌≡◌ {A = ℕ} 0 1 = cc in absurd (omega arith)
 
 latest_sized : (board : Board) (n : ℕ) (frame : Frame) → latest_of board n ≡ Some frame → Sized frame
 latest_sized board zero frame e = let z : ◌≡◌ {A = ℕ} 0 1 = cc in absurd (omega arith)
-latest_sized board (suc at) frame e =
-    let held = get_or board.places at blank in
-    subst Sized (held_or_none (slice_index_or board.heard at false) (content held) frame e) (held_sized held)
+latest_sized board (suc at) frame e = held_or_none (slice_index_or board.frames at None) frame e
 
 put_in : (latest : ℕ → Option Frame) (new frame : Frame) → In frame (frames_above (posted latest new) 0 nodes_max) → In frame (frames_above latest 0 nodes_max) ⊎ (frame ≡ new)
 put_in latest new frame h =
@@ -89,6 +88,6 @@ pub board_honest : Honest board_line
 board_honest = record {
   sized = λ s frame h. let m = has_sender (latest_of s) 0 nodes_max frame h in latest_sized s m.0 frame m.3;
   put = λ s t new frame e h. put_in (latest_of s) new frame (subst (λ (shown : Shown). In frame (frames_above shown.latest 0 nodes_max)) e h);
-  gave = λ s t frame e. gave_in (latest_of s) s.last (turn (shows s)) frame refl e.0;
+  gave = λ s t frame e. gave_in (latest_of s) s.next (turn (shows s)) frame refl e.0;
   took = λ s t answer frame e h. subst (λ (shown : Shown). In frame (frames_above shown.latest 0 nodes_max)) e.1 h;
 }

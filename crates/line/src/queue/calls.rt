@@ -7,8 +7,10 @@ ghost use Rattle.line.specs.Queue.{accepts, queue_line, queued, Freed};
 
 use super::{PLACES, Queue};
 use crate::frames::{holds_any, is_sized};
-use crate::held::{Held, copy_from, hold_at};
+use crate::held::Held;
 use crate::interface::{BufferTooShort, Line};
+use protocol::limits::FRAME_BYTES_MIN;
+use std::array;
 
 impl Queue {
     /// A queue in which nothing waits.
@@ -16,7 +18,7 @@ impl Queue {
         ensures { queued result ≡ [] }
     {
         Queue {
-            places: [Held::zeros(); PLACES],
+            places: array::from_fn(|_| Held::new(&[0; FRAME_BYTES_MIN])),
             first: 0,
             count: 0,
         }
@@ -43,7 +45,7 @@ impl Queue {
         ensures { queued self.new ≡ queued self.old ++ frame.now ∷ [] }
     {
         let free = (self.first + self.count) % PLACES;
-        hold_at(&mut self.places, free, frame);
+        self.places[free].hold(frame);
         self.count += 1;
     }
 
@@ -75,7 +77,7 @@ impl Line for Queue {
         if self.count == 0 {
             return Ok(None);
         }
-        let size = copy_from(&self.places, self.first, buffer);
+        let size = self.places[self.first].copy_into(buffer);
         self.free_oldest();
         Ok(Some(size))
     }
