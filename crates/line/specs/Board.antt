@@ -1,5 +1,5 @@
 -- The board: its rule, and the frames in its places.
-use Rattle.std.specs.Prelude.{ℕ, zero, suc, ◌+◌, ◌%◌, ◌≤◌, Bool, cond, ◌&&◌, List, [], ◌∷◌, is_some, Some, None, Option, option_map, ◌==◌, nat_le, slice_index, slice_index_or}
+use Rattle.std.specs.Prelude.{ℕ, zero, suc, ◌+◌, ◌%◌, ◌≤◌, Bool, cond, ◌&&◌, List, [], ◌++◌, is_some, Some, None, Option, option_map, option_and_then, option_to_list, unwrap_or, ◌==◌, nat_le, slice_index, slice_index_or}
 use Rattle.protocol.specs.Limits.{nodes_max}
 use Rattle.line.specs.Frames.{Frame, Sized, is_sized}
 use Rattle.line.specs.Conduct.{Conduct}
@@ -48,32 +48,17 @@ first_after latest last (suc n) = cond (is_some (latest (next_sender last))) (So
 abbrev pub turn : Shown → Option ℕ
 turn shown = first_after shown.latest shown.last nodes_max
 
--- its frame
-abbrev pub frame_of : (ℕ → Option Frame) → Option ℕ → Option Frame
-frame_of latest (Some n) = latest n
-frame_of latest None = None
-
--- the sender that was found, or else the last one given
-abbrev pub or_else : Option ℕ → ℕ → ℕ
-or_else (Some n) last = n
-or_else None last = last
-
--- a frame before others, if there is one
-abbrev pub prepended : Option Frame → List Frame → List Frame
-prepended (Some frame) frames = frame ∷ frames
-prepended None frames = frames
-
 -- the frames of so many senders above a number
 unfoldable pub frames_above : (ℕ → Option Frame) → ℕ → ℕ → List Frame
 frames_above latest from zero = []
-frames_above latest from (suc n) = prepended (latest (suc from)) (frames_above latest (suc from) n)
+frames_above latest from (suc n) = option_to_list (latest (suc from)) ++ frames_above latest (suc from) n
 
 abbrev pub board_rule : Rule Shown
 board_rule = record {
   waiting = λ shown. frames_above shown.latest 0 nodes_max;
   put = λ shown frame. record { latest = posted shown.latest frame; last = shown.last };
-  gives = λ shown. frame_of shown.latest (turn shown);
-  left = λ shown. record { latest = shown.latest; last = or_else (turn shown) shown.last };
+  gives = λ shown. option_and_then shown.latest (turn shown);
+  left = λ shown. record { latest = shown.latest; last = unwrap_or (turn shown) shown.last };
 }
 
 -- the latest frame of a sender, if one was heard: that of sender 1 is in the first place

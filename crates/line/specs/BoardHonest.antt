@@ -1,12 +1,12 @@
 -- The board is honest.
-use Rattle.std.specs.Prelude.{◌≡◌, ℕ, zero, suc, ◌+◌, ◌<◌, ◌≤◌, Bool, true, false, cond, ◌&&◌, ◌⊎◌, List, is_some, Some, None, Option, option_map, ◌==◌, slice_index_or, refl}
+use Rattle.std.specs.Prelude.{◌≡◌, ℕ, zero, suc, ◌+◌, ◌<◌, ◌≤◌, Bool, true, false, cond, ◌&&◌, ◌⊎◌, List, ◌++◌, is_some, Some, None, Option, option_map, option_and_then, option_to_list, ◌==◌, slice_index_or, refl}
 use Rattle.std.proofs.Common.{sym, subst, ap, ◌∙◌, inl, inr, ⊎_elim, arith}
 use Rattle.std.proofs.lemmas.Bool.{cases_lt}
 use Rattle.protocol.specs.Limits.{nodes_max}
 use Rattle.line.specs.Frames.{Frame, Sized, In}
 use Rattle.line.specs.Conduct.{Honest}
 use Rattle.line.specs.Held.{content, held_sized}
-use Rattle.line.specs.Board.{Shown, board_line, is_postable, sender_of, posted, next_sender, first_after, turn, frame_of, prepended, frames_above, latest_of, shows}
+use Rattle.line.specs.Board.{Shown, board_line, is_postable, sender_of, posted, next_sender, first_after, turn, frames_above, latest_of, shows}
 use Rattle.line.specs.declared.held.Held.{Held}
 use Rattle.line.specs.declared.board.Board.{Board}
 
@@ -16,7 +16,7 @@ chosen true x y o e = inl (refl, cc)
 chosen false x y o e = inr e
 
 -- a frame that is listed is that of a sender
-listed_some : (frame : Frame) (o : Option Frame) (frames : List Frame) → In frame (prepended o frames) → (o ≡ Some frame) ⊎ In frame frames
+listed_some : (frame : Frame) (o : Option Frame) (frames : List Frame) → In frame (option_to_list o ++ frames) → (o ≡ Some frame) ⊎ In frame frames
 listed_some frame (Some x) frames (inl e) = inl (ap Some (sym e))
 listed_some frame (Some x) frames (inr h) = inr h
 listed_some frame None frames h = inr h
@@ -34,11 +34,11 @@ first_or_later : (m from : ℕ) → from < m → (m ≡ suc from) ⊎ (suc from 
 first_or_later m from low = ⊎_elim (λ l. inr l) (λ l. inl (omega arith)) (cases_lt (suc from) m)
 
 -- and that of each sender is listed
-in_first : (frame : Frame) (o : Option Frame) (frames : List Frame) → o ≡ Some frame → In frame (prepended o frames)
+in_first : (frame : Frame) (o : Option Frame) (frames : List Frame) → o ≡ Some frame → In frame (option_to_list o ++ frames)
 in_first frame (Some x) frames e = inl (let same : frame ≡ x = cc in same)
 in_first frame None frames e = let z : ◌≡◌ {A = ℕ} 0 1 = cc in absurd (omega arith)
 
-in_others : (frame : Frame) (o : Option Frame) (frames : List Frame) → In frame frames → In frame (prepended o frames)
+in_others : (frame : Frame) (o : Option Frame) (frames : List Frame) → In frame frames → In frame (option_to_list o ++ frames)
 in_others frame (Some x) frames h = inr h
 in_others frame None frames h = h
 
@@ -78,7 +78,7 @@ put_in latest new frame h =
     (λ before. inl (is_listed latest 0 nodes_max m.0 frame m.1 m.2 before))
     (chosen (is_postable new && m.0 == sender_of new) new frame (latest m.0) m.3)
 
-gave_in : (latest : ℕ → Option Frame) (last : ℕ) (o : Option ℕ) (frame : Frame) → first_after latest last nodes_max ≡ o → Some frame ≡ frame_of latest o → In frame (frames_above latest 0 nodes_max)
+gave_in : (latest : ℕ → Option Frame) (last : ℕ) (o : Option ℕ) (frame : Frame) → first_after latest last nodes_max ≡ o → Some frame ≡ option_and_then latest o → In frame (frames_above latest 0 nodes_max)
 gave_in latest last None frame t e = let z : ◌≡◌ {A = ℕ} 0 1 = cc in absurd (omega arith)
 gave_in latest last (Some m) frame t e =
     let found = first_found latest last nodes_max m t in
