@@ -51,7 +51,7 @@ named_put latest new h n frame e =
 -- whose turn it is when a frame is given, and when none is
 given_turn : (latest : ℕ → Option Frame) (o : Option ℕ) (frame : Frame) → Some frame ≡ option_and_then latest o → (n : ℕ) × (o ≡ Some n) × (latest n ≡ Some frame)
 given_turn latest (Some n) frame e = (n, refl, sym e)
-given_turn latest None frame e = let z : ◌≡◌ {A = ℕ} 0 1 = cc in absurd (omega arith)
+given_turn latest None frame e = absurd cc
 
 none_turn : (latest : ℕ → Option Frame) (last : ℕ) (o : Option ℕ) → first_after latest last nodes_max ≡ o → None ≡ option_and_then latest o → o ≡ None
 none_turn latest last None t e = refl
@@ -77,7 +77,7 @@ last_after s t (took None ∷ events) h (u, p, rest) =
 
 -- what was put last by a sender names it, and was kept
 put_kept : (n : ℕ) (events : List Event) (frame : Frame) → latest_put n events ≡ Some frame → Postable frame × (sender_of frame ≡ n)
-put_kept n [] frame e = let z : ◌≡◌ {A = ℕ} 0 1 = cc in absurd (omega arith)
+put_kept n [] frame e = absurd cc
 put_kept n (took answer ∷ events) frame e = put_kept n events frame e
 put_kept n (put new ∷ events) frame e = put_or_later (latest_put n events) (put_kept n events frame) e
   where
@@ -106,12 +106,12 @@ some_put (put new ∷ events) frame (inr i) k = some_first (latest_put (sender_o
   where
     some_first : (o x : Option Frame) → is_some o ≡ true → is_some (option_or o x) ≡ true
     some_first (Some y) x h = refl
-    some_first None x h = let z : ◌≡◌ {A = ℕ} 0 1 = cc in absurd (omega arith)
+    some_first None x h = absurd cc
 
 -- from an empty board
 named_none : (s : Board) → shows s ≡ nothing_shown → Named (latest_of s)
 unfolding Named
-named_none s e n frame h = let none = ap (λ (shown : Shown). shown.latest n) e in let z : ◌≡◌ {A = ℕ} 0 1 = cc in absurd (omega arith)
+named_none s e n frame h = let none = ap (λ (shown : Shown). shown.latest n) e in absurd cc
 
 option_or_none : (o x : Option Frame) → x ≡ None → option_or o x ≡ o
 option_or_none (Some y) x e = refl
@@ -149,7 +149,7 @@ none_put events t u since p frame h k =
     both_ways _ (nobody_has t p.0 (sender_of frame) k.1 k.2) (ap is_some (latest_since events t since (sender_of frame)) ∙ some_put events frame h k)
 
 listed_none : (o : Option Frame) (frames : List Frame) → is_some o ≡ false → frames ≡ [] → option_to_list o ++ frames ≡ []
-listed_none (Some x) frames h e = let z : ◌≡◌ {A = ℕ} 0 1 = cc in absurd (omega arith)
+listed_none (Some x) frames h e = absurd cc
 listed_none None frames h e = e
 
 none_above : (latest : ℕ → Option Frame) (from n : ℕ) → ((m : ℕ) → from < m → m ≤ from + n → is_some (latest m) ≡ false) → frames_above latest from n ≡ []

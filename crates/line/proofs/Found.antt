@@ -51,8 +51,8 @@ module _ {A B F R C : Type 0} {v : A → B} {g : Mut F (A × Unit {0}) (Option R
       let split : map v p.items ++ drop n all ≡ all = ap (λ xs. xs ++ drop n all) so_far ∙ take-append-drop n all in
       let hits = first (λ a r q c. (computes a.0 r q c).0) in
       sym (
-        ap (first_answer h) (sym split)
-        ∙ some_over v h p.items i (drop n all) (w y)
-        (gave (Some y) (slice_get p.items i) (subst (λ o. IsSomeAnd o (λ x. Called g f (x, tt) (Some y) f)) (p.gave.1 i) hits.0))
-        (λ j l. gave None (slice_get p.items j) (subst (λ o. IsSomeAnd o (λ x. Called g f (x, tt) None f)) (p.gave.1 j) (hits.1 j l)))
+      ap (first_answer h) (sym split)
+      ∙ some_over v h p.items i (drop n all) (w y)
+      (gave (Some y) (slice_get p.items i) (subst (λ o. IsSomeAnd o (λ x. Called g f (x, tt) (Some y) f)) (p.gave.1 i) hits.0))
+      (λ j l. gave None (slice_get p.items j) (subst (λ o. IsSomeAnd o (λ x. Called g f (x, tt) None f)) (p.gave.1 j) (hits.1 j l)))
       )

@@ -73,14 +73,13 @@ within : (frames : List (Option Held)) (place : ℕ) (held : Held) → get_or fr
 within frames place held e =
     ⊎_elim
     (λ l. l)
-    (λ past. let none : ◌≡◌ {A = Option Held} (Some held) None = sym e ∙ get_or_past frames place None past in let z : ◌≡◌ {A = ℕ} 0 1 = cc in absurd (omega arith))
+    (λ past. let none : ◌≡◌ {A = Option Held} (Some held) None = sym e ∙ get_or_past frames place None past in absurd cc)
     (cases_lt place (length frames))
 
 pub turn_found : (board : Board) (r : Option (ℕ × Bor Held)) → option_map (λ found. (found.0, found.1.now)) r ≡ first_answer (held_in board.frames) (places_after board.next nodes_max) → MatchOption r (turn (shows board) ≡ None) (λ found. (turn (shows board) ≡ Some (found.0 + 1)) × (found.0 < nodes_max) × (latest_of board (found.0 + 1) ≡ Some (content found.1.now)))
 turn_found board None e = sym (ap (option_map (λ found. found.0 + 1)) e ∙ turn_place board.frames board.next nodes_max)
 turn_found board (Some found) e =
-    let held : get_or board.frames found.0 None ≡ Some found.1.now = subst (λ o. IfSome o (λ f. get_or board.frames f.0 None ≡ Some f.1)) (sym e) (is_held board.frames (places_after board.next nodes_max)) in
-    (
+    let held : get_or board.frames found.0 None ≡ Some found.1.now = subst (λ o. IfSome o (λ f. get_or board.frames f.0 None ≡ Some f.1)) (sym e) (is_held board.frames (places_after board.next nodes_max)) in (
       sym (ap (option_map (λ found. found.0 + 1)) e ∙ turn_place board.frames board.next nodes_max),
       omega (arith, within board.frames found.0 found.1.now held, board.round.0),
       latest_at board.frames found.0 ∙ ap (option_map content) held,
@@ -105,7 +104,7 @@ apart latest m n p q e = some_none (latest n) (ap (λ k. is_some (latest k)) (sy
 -- no sender that has a frame comes sooner
 pub soonest : (latest : ℕ → Option Frame) (last n m p : ℕ) → last ≤ 16 → first_after latest last n ≡ Some m → 1 ≤ p → p ≤ 16 → is_some (latest p) ≡ true → ahead last m ≤ ahead last p
 unfolding first_after
-soonest latest last zero m p h e low high s = let z : ◌≡◌ {A = ℕ} 0 1 = cc in absurd (omega arith)
+soonest latest last zero m p h e low high s = absurd cc
 soonest latest last (suc n) m p h e low high s =
     let next = next_sender last in
     ⊎_elim
@@ -128,7 +127,7 @@ none_found latest last zero p h e low high near = absurd (omega arith)
 none_found latest last (suc n) p h e low high near =
     let next = next_sender last in
     ⊎_elim
-    (λ here. let wrong : ◌≡◌ {A = Option ℕ} (Some next) None = sym (cond-true _ _ _ here) ∙ e in let z : ◌≡◌ {A = ℕ} 0 1 = cc in absurd (omega arith))
+    (λ here. let wrong : ◌≡◌ {A = Option ℕ} (Some next) None = sym (cond-true _ _ _ here) ∙ e in absurd cc)
     (λ further.
     let later : first_after latest next n ≡ None = sym (cond-false _ _ _ further) ∙ e in
     ⊎_elim

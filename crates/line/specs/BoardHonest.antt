@@ -36,7 +36,7 @@ first_or_later m from low = ⊎_elim (λ l. inr l) (λ l. inl (omega arith)) (ca
 -- and that of each sender is listed
 in_first : (frame : Frame) (o : Option Frame) (frames : List Frame) → o ≡ Some frame → In frame (option_to_list o ++ frames)
 in_first frame (Some x) frames e = inl (let same : frame ≡ x = cc in same)
-in_first frame None frames e = let z : ◌≡◌ {A = ℕ} 0 1 = cc in absurd (omega arith)
+in_first frame None frames e = absurd cc
 
 in_others : (frame : Frame) (o : Option Frame) (frames : List Frame) → In frame frames → In frame (option_to_list o ++ frames)
 in_others frame (Some x) frames h = inr h
@@ -54,7 +54,7 @@ is_listed latest from (suc n) m frame low high e =
 -- the sender whose turn it is has a frame
 pub first_found : (latest : ℕ → Option Frame) (last n m : ℕ) → first_after latest last n ≡ Some m → (is_some (latest m) ≡ true) × (1 ≤ m) × (m ≤ nodes_max)
 unfolding first_after
-first_found latest last zero m e = let z : ◌≡◌ {A = ℕ} 0 1 = cc in absurd (omega arith)
+first_found latest last zero m e = absurd cc
 first_found latest last (suc n) m e =
     ⊎_elim
     (λ here. (ap (λ k. is_some (latest k)) (sym here.1) ∙ here.0, omega (arith, here.1), omega (arith, here.1)))
@@ -64,10 +64,10 @@ first_found latest last (suc n) m e =
 -- what the places hold has the length of a frame
 held_or_none : (place : Option Held) (frame : Frame) → option_map content place ≡ Some frame → Sized frame
 held_or_none (Some held) frame e = let same : content held ≡ frame = cc in subst Sized same (held_sized held)
-held_or_none None frame e = let z : ◌≡◌ {A = ℕ} 0 1 = cc in absurd (omega arith)
+held_or_none None frame e = absurd cc
 
 latest_sized : (board : Board) (n : ℕ) (frame : Frame) → latest_of board n ≡ Some frame → Sized frame
-latest_sized board zero frame e = let z : ◌≡◌ {A = ℕ} 0 1 = cc in absurd (omega arith)
+latest_sized board zero frame e = absurd cc
 latest_sized board (suc at) frame e = held_or_none (slice_index_or board.frames at None) frame e
 
 put_in : (latest : ℕ → Option Frame) (new frame : Frame) → In frame (frames_above (posted latest new) 0 nodes_max) → In frame (frames_above latest 0 nodes_max) ⊎ (frame ≡ new)
@@ -79,7 +79,7 @@ put_in latest new frame h =
     (chosen (is_postable new && m.0 == sender_of new) new frame (latest m.0) m.3)
 
 gave_in : (latest : ℕ → Option Frame) (last : ℕ) (o : Option ℕ) (frame : Frame) → first_after latest last nodes_max ≡ o → Some frame ≡ option_and_then latest o → In frame (frames_above latest 0 nodes_max)
-gave_in latest last None frame t e = let z : ◌≡◌ {A = ℕ} 0 1 = cc in absurd (omega arith)
+gave_in latest last None frame t e = absurd cc
 gave_in latest last (Some m) frame t e =
     let found = first_found latest last nodes_max m t in
     is_listed latest 0 nodes_max m frame (omega (arith, found.1)) (omega (arith, found.2)) (sym e)

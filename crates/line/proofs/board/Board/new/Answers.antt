@@ -9,5 +9,5 @@ pub returns : goal.returns
 returns c =
     let items = c.from_fn.ensures.items in
     let none : (at : ℕ) → get_or c.from_fn.result at None ≡ None = λ at.
-        ⊎_elim (λ low. let call = (items.at at None low).2 in search (rules, tests)) (λ past. get_or_past c.from_fn.result at None (omega (arith, items.long))) (cases_lt at 16) in
+    ⊎_elim (λ low. let call = (items.at at None low).2 in search (rules, tests)) (λ past. get_or_past c.from_fn.result at None (omega (arith, items.long))) (cases_lt at 16) in
     record { empty = unheard_waiting c.from_fn.result none; start = unheard_shows c.from_fn.result none }
