@@ -1,6 +1,5 @@
 //! A place for one frame.
-ghost use Rattle.std.specs.Prelude.{◌≤◌, length};
-ghost use Rattle.protocol.specs.Limits.{frame_bytes_min, frame_bytes_max};
+ghost use Rattle.line.specs.Frames.{Sized};
 
 use arrayvec::ArrayVec;
 use protocol::limits::FRAME_BYTES_MAX;
@@ -9,7 +8,7 @@ use protocol::limits::FRAME_BYTES_MAX;
 #[derive(Drop)]
 pub struct Held {
     bytes: ArrayVec<u8, FRAME_BYTES_MAX>,
-    ghost sized: { (frame_bytes_min ≤ length bytes.items) × (length bytes.items ≤ frame_bytes_max) },
+    ghost sized: { Sized bytes.items },
 }
 
 impl Held {
