@@ -2,7 +2,7 @@
 use Rattle.std.proofs.Common.{◌≡◌, ℕ, zero, suc, ◌+◌, ◌-◌, ◌%◌, ◌<◌, ◌≤◌, true, false, cond, List, [], ◌∷◌, ◌++◌, length, get_or, is_some, Some, None, Option, option_map, sym, refl, ap, ◌∙◌, ap₂, subst, add-one, ⊎_elim, arith}
 use Rattle.std.proofs.lemmas.List.{append-nil, get_or_past}
 use Rattle.std.proofs.lemmas.Bool.{cond-true, cond-false, cases_eq, cases_lt, cases_Bool, both_ways}
-use Rattle.std.specs.Prelude.{IfSome, MatchOption}
+use Rattle.std.specs.Prelude.{IfSome}
 use Rattle.std.specs.List.{range_with_len}
 use Rattle.std.specs.Option.{option_or}
 use denote.Ref.{Bor}
@@ -76,14 +76,21 @@ within frames place held e =
     (λ past. let none : ◌≡◌ {A = Option Held} (Some held) None = sym e ∙ get_or_past frames place None past in absurd cc)
     (cases_lt place (length frames))
 
-pub turn_found : (board : Board) (r : Option (ℕ × Bor Held)) → option_map (λ found. (found.0, found.1.now)) r ≡ first_answer (held_in board.frames) (places_after board.next nodes_max) → MatchOption r (turn (shows board) ≡ None) (λ found. (turn (shows board) ≡ Some (found.0 + 1)) × (found.0 < nodes_max) × (latest_of board (found.0 + 1) ≡ Some (content found.1.now)))
-turn_found board None e = sym (ap (option_map (λ found. found.0 + 1)) e ∙ turn_place board.frames board.next nodes_max)
+-- what such a search over a board finds
+pub record IsTurn (board : Board) (r : Option (ℕ × Bor Held)) : Type 0 where
+  pub turn : option_map (λ found. found.0 + 1) r ≡ turn (shows board)
+  pub within : IfSome r (λ found. found.0 < nodes_max)
+  pub frame : IfSome r (λ found. latest_of board (found.0 + 1) ≡ Some (content found.1.now))
+
+pub turn_found : (board : Board) (r : Option (ℕ × Bor Held)) → option_map (λ found. (found.0, found.1.now)) r ≡ first_answer (held_in board.frames) (places_after board.next nodes_max) → IsTurn board r
+turn_found board None e = record { turn = ap (option_map (λ found. found.0 + 1)) e ∙ turn_place board.frames board.next nodes_max; within = tt; frame = tt }
 turn_found board (Some found) e =
-    let held : get_or board.frames found.0 None ≡ Some found.1.now = subst (λ o. IfSome o (λ f. get_or board.frames f.0 None ≡ Some f.1)) (sym e) (is_held board.frames (places_after board.next nodes_max)) in (
-      sym (ap (option_map (λ found. found.0 + 1)) e ∙ turn_place board.frames board.next nodes_max),
-      omega (arith, within board.frames found.0 found.1.now held, board.round.0),
-      latest_at board.frames found.0 ∙ ap (option_map content) held,
-    )
+    let held : get_or board.frames found.0 None ≡ Some found.1.now = subst (λ o. IfSome o (λ f. get_or board.frames f.0 None ≡ Some f.1)) (sym e) (is_held board.frames (places_after board.next nodes_max)) in
+    record {
+      turn = ap (option_map (λ found. found.0 + 1)) e ∙ turn_place board.frames board.next nodes_max;
+      within = omega (arith, within board.frames found.0 found.1.now held, board.round.0);
+      frame = latest_at board.frames found.0 ∙ ap (option_map content) held;
+    }
 
 -- the next sender is not ahead of itself, and every other is one step nearer from it
 next_ahead : (last : ℕ) → last ≤ 16 → ahead last (next_sender last) ≡ 0

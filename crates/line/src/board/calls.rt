@@ -1,9 +1,9 @@
 //! What a board does.
-ghost use Rattle.std.specs.Prelude.{◌≡◌, ◌+◌, ◌<◌, [], Some, None, MatchOption};
+ghost use Rattle.std.specs.Prelude.{◌≡◌, ◌+◌, ◌<◌, [], Some, IfSome, option_map};
 ghost use Rattle.protocol.specs.Limits.{nodes_max};
 ghost use Rattle.line.specs.BoardHonest.{board_honest};
 ghost use Rattle.line.specs.Held.{content};
-ghost use Rattle.line.specs.Board.{board_line, board_rule, sender_of, Postable, is_postable, nothing_shown, latest_of, turn, shows};
+ghost use Rattle.line.specs.Board.{board_line, board_rule, Postable, is_postable, nothing_shown, latest_of, turn, shows};
 
 use super::{Board, SENDERS};
 use crate::frames::{holds_any, is_sized};
@@ -33,9 +33,9 @@ impl Board {
 
     // The place of the sender whose turn it is, and its frame.
     fn turn(&self) -> Option<(usize, &Held)>
-        ensures { MatchOption result (turn (shows self.now) ≡ None)
-            (λ found. (turn (shows self.now) ≡ Some (found.0 + 1)) × (found.0 < nodes_max)
-            × (latest_of self.now (found.0 + 1) ≡ Some (content found.1.now))) }
+        ensures turn { option_map (λ found. found.0 + 1) result ≡ turn (shows self.now) }
+        ensures within { IfSome result (λ found. found.0 < nodes_max) }
+        ensures frame { IfSome result (λ found. latest_of self.now (found.0 + 1) ≡ Some (content found.1.now)) }
     {
         (self.next..SENDERS)
             .chain(0..self.next)
