@@ -17,7 +17,7 @@ after_put true xs ys frame events e =
 after_put false xs ys frame events e = ap (λ zs. zs ++ accepted (length zs) events) (sym e)
 
 after_frame : (xs ys : List Frame) (frame : Frame) (events : List Event) → Some frame ≡ oldest xs → ys ≡ without_oldest xs → xs ++ accepted (length xs - 1) events ≡ frame ∷ (ys ++ accepted (length ys) events)
-after_frame [] ys frame events o e = let z : ◌≡◌ {A = ℕ} 0 1 = cc in absurd (omega arith)
+after_frame [] ys frame events o e = absurd cc
 after_frame (x ∷ xs) ys frame events o e =
     let same : x ≡ frame = cc in
     let n : suc (length xs) - 1 ≡ length xs = omega arith in
@@ -25,7 +25,7 @@ after_frame (x ∷ xs) ys frame events o e =
 
 after_none : (xs ys : List Frame) → None ≡ oldest xs → ys ≡ without_oldest xs → (xs ≡ []) × (xs ≡ ys)
 after_none [] ys o e = (refl, sym e)
-after_none (x ∷ xs) ys o e = let z : ◌≡◌ {A = ℕ} 0 1 = cc in absurd (omega arith)
+after_none (x ∷ xs) ys o e = absurd cc
 
 goes_on : (s t : Queue) (events : List Event) → Session queue_line s events t → queued s ++ accepted (length (queued s)) events ≡ given events ++ queued t
 goes_on s t [] e = append-nil (queued s) ∙ sym (ap queued e)

@@ -1,8 +1,8 @@
--- One frame more in the ring, and one less.
-use Rattle.std.proofs.Common.{◌≡◌, ℕ, zero, suc, ◌+◌, ◌-◌, ◌%◌, ◌<◌, ◌≢◌, List, [], ◌∷◌, ◌++◌, length, get_or, set, Some, sym, refl, ap, ◌∙◌, ap₂, add-one, arith}
+-- One frame more in the ring.
+use Rattle.std.proofs.Common.{◌≡◌, ℕ, zero, suc, ◌+◌, ◌%◌, ◌<◌, ◌≢◌, List, [], ◌∷◌, ◌++◌, length, get_or, set, refl, ap, ◌∙◌, ap₂, add-one, arith}
 use Rattle.std.proofs.lemmas.List.{get_or-set_same, get_or-set_other}
 use Rattle.line.specs.Held.{blank, content}
-use Rattle.line.specs.Queue.{around, queued, next_place, oldest, without_oldest, Freed}
+use Rattle.line.specs.Queue.{around, queued, next_place}
 use Rattle.line.specs.declared.held.Held.{Held}
 use Rattle.line.specs.declared.queue.Queue.{Queue}
 
@@ -27,18 +27,3 @@ around_suc places at (suc n) held h l e =
 -- one frame more, in the first free place
 pub around_push : (places : List Held) (at n : ℕ) (held : Held) → at < 8 → n < 8 → length places ≡ 8 → around (set places ((at + n) % 8) held) at (n + 1) ≡ around places at n ++ content held ∷ []
 around_push places at n held h l e = ap (around (set places ((at + n) % 8) held) at) (add-one n) ∙ around_suc places at n held h l e
-
--- one frame less
-pub around_pop : (places : List Held) (at n : ℕ) → 0 < n → around places at n ≡ content (get_or places at blank) ∷ around places (next_place at) (n - 1)
-around_pop places at zero h = absurd (omega arith)
-around_pop places at (suc n) h = let e : n ≡ suc n - 1 = omega arith in ap (λ k. content (get_or places at blank) ∷ around places (next_place at) k) e
-
--- the oldest frame is in the first place, and the others wait once that is freed
-pub oldest_given : (queue : Queue) → 0 < queue.count → Some (content (get_or queue.places queue.first blank)) ≡ oldest (queued queue)
-oldest_given queue h = sym (ap oldest (around_pop queue.places queue.first queue.count h))
-
-pub oldest_freed : (s t : Queue) → 0 < s.count → Freed s t → queued t ≡ without_oldest (queued s)
-oldest_freed s t h freed =
-    ap (λ places. around places t.first t.count) freed.places
-    ∙ ap₂ (around s.places) freed.first freed.count
-    ∙ sym (ap without_oldest (around_pop s.places s.first s.count h))

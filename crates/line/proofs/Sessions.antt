@@ -1,5 +1,5 @@
 -- What holds of every session: honest lines invent nothing, and lines by rule have one outcome.
-use Rattle.std.proofs.Common.{◌≡◌, ℕ, ◌⊎◌, List, [], ◌∷◌, map, sym, refl, ap, ◌∙◌, subst, ap₂, inl, inr, ⊎_elim, arith}
+use Rattle.std.proofs.Common.{◌≡◌, ◌⊎◌, List, [], ◌∷◌, map, sym, refl, ap, ◌∙◌, subst, ap₂, inl, inr, ⊎_elim}
 use Rattle.line.specs.Frames.{Frame, In}
 use Rattle.line.specs.Conduct.{Conduct, Honest}
 use Rattle.line.specs.Rule.{Rule, by_rule}
@@ -23,10 +23,10 @@ module _ {S : Type 0} {line : Conduct S} (honest : Honest line) where
 module _ {S V : Type 0} (shows : S → V) (rule : Rule V) where
   pub one_outcome : OneOutcome shows (by_rule shows rule)
   one_outcome s s' t t' [] [] v c e e' = (refl, ap shows e ∙ v ∙ sym (ap shows e'))
-  one_outcome s s' t t' [] (x ∷ xs) v c e e' = let z : ◌≡◌ {A = ℕ} 0 1 = cc in absurd (omega arith)
-  one_outcome s s' t t' (x ∷ xs) [] v c e e' = let z : ◌≡◌ {A = ℕ} 0 1 = cc in absurd (omega arith)
-  one_outcome s s' t t' (put f ∷ xs) (took a ∷ ys) v c e e' = let z : ◌≡◌ {A = ℕ} 0 1 = cc in absurd (omega arith)
-  one_outcome s s' t t' (took a ∷ xs) (put f ∷ ys) v c e e' = let z : ◌≡◌ {A = ℕ} 0 1 = cc in absurd (omega arith)
+  one_outcome s s' t t' [] (x ∷ xs) v c e e' = absurd cc
+  one_outcome s s' t t' (x ∷ xs) [] v c e e' = absurd cc
+  one_outcome s s' t t' (put f ∷ xs) (took a ∷ ys) v c e e' = absurd cc
+  one_outcome s s' t t' (took a ∷ xs) (put f ∷ ys) v c e e' = absurd cc
   one_outcome s s' t t' (put f ∷ xs) (put g ∷ ys) v c (u, p, rest) (u', p', rest') =
       let same : f ≡ g = cc in
       let calls : map called xs ≡ map called ys = cc in

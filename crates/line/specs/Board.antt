@@ -1,10 +1,10 @@
 -- The board: its rule, and the frames in its places.
-use Rattle.std.specs.Prelude.{◌≡◌, ℕ, zero, suc, ◌+◌, ◌%◌, ◌≤◌, Bool, false, cond, ◌&&◌, List, [], ◌∷◌, replicate, is_some, Some, None, Option, ◌==◌, nat_le, slice_index, slice_index_or}
+use Rattle.std.specs.Prelude.{ℕ, zero, suc, ◌+◌, ◌%◌, ◌≤◌, Bool, cond, ◌&&◌, List, [], ◌++◌, is_some, Some, None, Option, option_map, option_and_then, option_to_list, unwrap_or, ◌==◌, nat_le, slice_index, slice_index_or}
 use Rattle.protocol.specs.Limits.{nodes_max}
 use Rattle.line.specs.Frames.{Frame, Sized, is_sized}
 use Rattle.line.specs.Conduct.{Conduct}
 use Rattle.line.specs.Rule.{Rule, by_rule}
-use Rattle.line.specs.Held.{blank, content}
+use Rattle.line.specs.Held.{content}
 use Rattle.line.specs.declared.held.Held.{Held}
 use Rattle.line.specs.declared.board.Board.{Board}
 
@@ -44,63 +44,34 @@ unfoldable pub first_after : (ℕ → Option Frame) → ℕ → ℕ → Option �
 first_after latest last zero = None
 first_after latest last (suc n) = cond (is_some (latest (next_sender last))) (Some (next_sender last)) (first_after latest (next_sender last) n)
 
--- a sender that was found is one of 1 to 16
-abbrev pub Numbered : Option ℕ → Type 0
-Numbered (Some n) = (1 ≤ n) × (n ≤ nodes_max)
-Numbered None = Unit {0}
-
 -- the sender whose turn it is
 abbrev pub turn : Shown → Option ℕ
 turn shown = first_after shown.latest shown.last nodes_max
 
--- its frame
-abbrev pub frame_of : (ℕ → Option Frame) → Option ℕ → Option Frame
-frame_of latest (Some n) = latest n
-frame_of latest None = None
-
--- the sender that was found, or else the last one given
-abbrev pub or_else : Option ℕ → ℕ → ℕ
-or_else (Some n) last = n
-or_else None last = last
-
--- a frame before others, if there is one
-abbrev pub prepended : Option Frame → List Frame → List Frame
-prepended (Some frame) frames = frame ∷ frames
-prepended None frames = frames
-
 -- the frames of so many senders above a number
 unfoldable pub frames_above : (ℕ → Option Frame) → ℕ → ℕ → List Frame
 frames_above latest from zero = []
-frames_above latest from (suc n) = prepended (latest (suc from)) (frames_above latest (suc from) n)
+frames_above latest from (suc n) = option_to_list (latest (suc from)) ++ frames_above latest (suc from) n
 
 abbrev pub board_rule : Rule Shown
 board_rule = record {
   waiting = λ shown. frames_above shown.latest 0 nodes_max;
   put = λ shown frame. record { latest = posted shown.latest frame; last = shown.last };
-  gives = λ shown. frame_of shown.latest (turn shown);
-  left = λ shown. record { latest = shown.latest; last = or_else (turn shown) shown.last };
+  gives = λ shown. option_and_then shown.latest (turn shown);
+  left = λ shown. record { latest = shown.latest; last = unwrap_or (turn shown) shown.last };
 }
 
 -- the latest frame of a sender, if one was heard: that of sender 1 is in the first place
-abbrev pub latest_in : List Held → List Bool → ℕ → Option Frame
-latest_in places heard zero = None
-latest_in places heard (suc at) = cond (slice_index_or heard at false) (Some (content (slice_index_or places at blank))) None
+abbrev pub latest_in : List (Option Held) → ℕ → Option Frame
+latest_in frames zero = None
+latest_in frames (suc at) = option_map content (slice_index_or frames at None)
 
 abbrev pub latest_of : Board → ℕ → Option Frame
-latest_of board = latest_in board.places board.heard
+latest_of board = latest_in board.frames
 
+-- the place after a sender's has the sender's number
 abbrev pub shows : Board → Shown
-shows board = record { latest = latest_of board; last = board.last }
+shows board = record { latest = latest_of board; last = board.next }
 
 abbrev pub board_line : Conduct Board
 board_line = by_rule shows board_rule
-
--- nothing was heard or given yet
-pub record Unheard (board : Board) : Type 0 where
-  pub heard : board.heard ≡ replicate nodes_max false
-  pub last : board.last ≡ 0
-
--- the frame of one sender was replaced
-pub record Posted (s : Board) (frame : Frame) (t : Board) : Type 0 where
-  pub latest : (n : ℕ) → latest_of t n ≡ posted (latest_of s) frame n
-  pub last : t.last ≡ s.last

@@ -1,20 +1,16 @@
 -- What the board's rule gives over whole sessions.
 use Rattle.std.specs.Prelude.{◌≡◌, ℕ, ◌+◌, ◌-◌, ◌*◌, ◌%◌, ◌≤◌, cond, ◌&&◌, List, [], ◌∷◌, Some, None, Option, ◌==◌, ◌≢◌}
+use Rattle.std.specs.Option.{option_or}
 use Rattle.protocol.specs.Limits.{nodes_max}
 use Rattle.line.specs.Frames.{Frame, In}
 use Rattle.line.specs.Session.{Event, Session, put, took, sent, OneOutcome}
 use Rattle.line.specs.Board.{board_line, sender_of, Postable, is_postable, latest_of, shows, nothing_shown}
 use Rattle.line.specs.declared.board.Board.{Board}
 
--- the first if it is there, else the second
-abbrev pub otherwise : Option Frame → Option Frame → Option Frame
-otherwise (Some frame) other = Some frame
-otherwise None other = other
-
 -- the latest frame put by a sender, of those that a board keeps
 abbrev pub latest_put : ℕ → List Event → Option Frame
 latest_put n [] = None
-latest_put n (put frame ∷ events) = otherwise (latest_put n events) (cond (is_postable frame && n == sender_of frame) (Some frame) None)
+latest_put n (put frame ∷ events) = option_or (latest_put n events) (cond (is_postable frame && n == sender_of frame) (Some frame) None)
 latest_put n (took answer ∷ events) = latest_put n events
 
 -- the sender of the frame that was last given, if the one before is known

@@ -1,5 +1,5 @@
 -- The queue: its rule, and the frames in its places.
-use Rattle.std.specs.Prelude.{◌≡◌, ℕ, zero, suc, ◌+◌, ◌-◌, ◌%◌, Bool, cond, ◌&&◌, List, [], ◌∷◌, ◌++◌, length, Some, None, Option, nat_lt, slice_index_or}
+use Rattle.std.specs.Prelude.{ℕ, zero, suc, ◌+◌, ◌%◌, Bool, cond, ◌&&◌, List, [], ◌∷◌, ◌++◌, length, Option, nat_lt, slice_get, slice_index_or, drop}
 use Rattle.line.specs.Places.{queue_places}
 use Rattle.line.specs.Frames.{Frame, is_sized}
 use Rattle.line.specs.Conduct.{Conduct}
@@ -14,12 +14,10 @@ accepts count frame = is_sized frame && nat_lt count queue_places
 
 -- the oldest frame, or none
 abbrev pub oldest : List Frame → Option Frame
-oldest [] = None
-oldest (frame ∷ frames) = Some frame
+oldest frames = slice_get frames 0
 
 abbrev pub without_oldest : List Frame → List Frame
-without_oldest [] = []
-without_oldest (frame ∷ frames) = frames
+without_oldest frames = drop 1 frames
 
 -- a queue shows its frames, the oldest first
 abbrev pub queue_rule : Rule (List Frame)
@@ -45,9 +43,3 @@ queued queue = around queue.places queue.first queue.count
 
 abbrev pub queue_line : Conduct Queue
 queue_line = by_rule queued queue_rule
-
--- the place of the oldest frame was freed
-pub record Freed (s t : Queue) : Type 0 where
-  pub places : t.places ≡ s.places
-  pub first : t.first ≡ next_place s.first
-  pub count : t.count ≡ s.count - 1

@@ -1,6 +1,6 @@
 -- The queue is honest.
 use Rattle.std.specs.Prelude.{◌≡◌, ℕ, zero, suc, Bool, true, false, cond, ◌⊎◌, List, [], ◌∷◌, ◌++◌, length, Some, slice_index_or}
-use Rattle.std.proofs.Common.{sym, subst, inl, inr, ⊎_elim, arith}
+use Rattle.std.proofs.Common.{sym, subst, inl, inr, ⊎_elim}
 use Rattle.line.specs.Frames.{Frame, Sized, In}
 use Rattle.line.specs.Conduct.{Honest}
 use Rattle.line.specs.Held.{blank, held_sized}
@@ -23,7 +23,7 @@ put_in true xs new frame h = in_push xs new frame h
 put_in false xs new frame h = inl h
 
 gave_in : (xs : List Frame) (frame : Frame) → Some frame ≡ oldest xs → In frame xs
-gave_in [] frame e = let z : ◌≡◌ {A = ℕ} 0 1 = cc in absurd (omega arith)
+gave_in [] frame e = absurd cc
 gave_in (x ∷ xs) frame e = inl cc
 
 took_in : (xs : List Frame) (frame : Frame) → In frame (without_oldest xs) → In frame xs

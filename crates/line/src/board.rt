@@ -14,9 +14,8 @@ const SENDERS: usize = NODES_MAX as usize;
 #[derive(Drop)]
 pub struct Board {
     // the latest frame of sender 1, 2 and so on, if one was heard of it
-    places: [Held; SENDERS],
-    heard: [bool; SENDERS],
-    // the sender of the frame that was given last; at first 0
-    last: usize,
-    ghost round: { (length places ≡ nodes_max) × (length heard ≡ nodes_max) × (last ≤ nodes_max) },
+    frames: [Option<Held>; SENDERS],
+    // where the round goes on: the place after that of the frame given last
+    next: usize,
+    ghost round: { (length frames ≡ nodes_max) × (next ≤ nodes_max) },
 }

@@ -9,7 +9,7 @@ use protocol::limits::{FRAME_BYTES_MAX, FRAME_BYTES_MIN};
 pub fn is_sized(frame: &[u8]) -> bool
     ensures { result ≡ is_sized frame.now }
 {
-    FRAME_BYTES_MIN <= frame.len() && frame.len() <= FRAME_BYTES_MAX
+    (FRAME_BYTES_MIN..=FRAME_BYTES_MAX).contains(&frame.len())
 }
 
 /// Whether the longest frame would fit a buffer.

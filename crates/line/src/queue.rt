@@ -13,6 +13,7 @@ pub const PLACES: usize = 8;
 #[derive(Drop)]
 pub struct Queue {
     // a ring: the oldest frame is in the place `first`, and `count` wait from there on
+    // (by hand: the kit's ring is on the heap, and an `ArrayVec` that moves all up at a taking was timed at 7 to 40 times this)
     places: [Held; PLACES],
     first: usize,
     count: usize,
