@@ -1,5 +1,5 @@
 -- The figures of lines, and of more lines, by the laws of a tally kind alone. Assumes nothing.
-use Rattle.std.proofs.Common.{◌≡◌, ℕ, List, [], ◌∷◌, ◌++◌, map, length, Ok, Err, Result, sym, refl, ap, ◌∙◌, ap₂, arith, length-append}
+use Rattle.std.proofs.Common.{◌≡◌, ℕ, ◌+◌, List, [], ◌∷◌, ◌++◌, map, length, Ok, Err, Result, sym, refl, ap, ◌∙◌, ap₂, arith, length-append}
 use Rattle.std.proofs.lemmas.List.{map-append}
 use Rattle.tally.specs.Kind.{Kind, Lawful, joins}
 use Rattle.tally.specs.Queues.{queues, queues_lawful, observed_queue}
@@ -7,7 +7,7 @@ use Rattle.tally.specs.declared.queues.banded.Queues.{Queues}
 use Rattle.observations.specs.declared.line.LineFault.{LineFault}
 use Rattle.observations.specs.declared.figures.Figures.{Figures}
 use Rattle.observations.specs.Line.{Says}
-use Rattle.observations.specs.Figures.{Answers, lengths, faults, Counts, Observed, Refused, Together}
+use Rattle.observations.specs.Figures.{stopped, Answers, lengths, faults, Counts}
 
 module _ {V : Type 0} {kind : Kind V} (laws : Lawful kind) where
   pub right_unit : (x : V) → kind.join x kind.empty ≡ x
@@ -16,6 +16,18 @@ module _ {V : Type 0} {kind : Kind V} (laws : Lawful kind) where
   pub joins_append : (xs ys : List V) → joins kind (xs ++ ys) ≡ kind.join (joins kind xs) (joins kind ys)
   joins_append [] ys = sym (laws.unit (joins kind ys))
   joins_append (x ∷ xs) ys = ap (kind.join x) (joins_append xs ys) ∙ sym (laws.assoc x (joins kind xs) (joins kind ys))
+
+-- one observed length more
+abbrev Observed : Figures → ℕ → Figures → Type 0
+Observed before n after = (after.tally ≡ queues.join before.tally (observed_queue n)) × (after.taken ≡ stopped (before.taken + 1)) × (after.refused ≡ before.refused)
+
+-- one refused line more
+abbrev Refused : Figures → Figures → Type 0
+Refused before after = (after.tally ≡ before.tally) × (after.taken ≡ before.taken) × (after.refused ≡ stopped (before.refused + 1))
+
+-- both figures as one
+abbrev Together : Figures → Figures → Figures → Type 0
+Together one other both = (both.tally ≡ queues.join one.tally other.tally) × (both.taken ≡ stopped (one.taken + other.taken)) × (both.refused ≡ stopped (one.refused + other.refused))
 
 lengths_append : (xs ys : List (Result ℕ LineFault)) → lengths (xs ++ ys) ≡ lengths xs ++ lengths ys
 lengths_append [] ys = refl
