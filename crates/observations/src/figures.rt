@@ -31,6 +31,7 @@ impl Figures {
     }
 
     /// Counts one more line, by the answer to it.
+    #[tactic(auto, using(crate::proofs::Joining::count_taken, crate::proofs::Joining::count_refused))]
     pub fn count(&mut self, answer: Result<u32, LineFault>)
         ensures { (lines : List (List ℕ)) (line : List ℕ) → Counts lines self.old → Says line answer → Counts (lines ++ line ∷ []) self.new }
     {
@@ -44,6 +45,7 @@ impl Figures {
     }
 
     /// Counts the lines of other figures too.
+    #[tactic(auto, using(crate::proofs::Joining::counts_together))]
     pub fn join(&mut self, other: &Figures)
         ensures { (lines more : List (List ℕ)) → Counts lines self.old → Counts more other.now → Counts (lines ++ more) self.new }
     {
