@@ -101,14 +101,8 @@ mod tests {
         assert_eq!(rt; Bounds::of(15), Some(Bounds::From(50)));
         assert_eq!(rt; Bounds::of(16), None);
         assert_eq!(rt; Count::of(7u32), Count::Exact(7));
-        assert_eq!(rt;
-            Count::of(4_294_967_295u32),
-            Count::AtLeast(4_294_967_295)
-        );
-        assert_eq!(rt;
-            Count::of(4_294_967_295u64),
-            Count::Exact(4_294_967_295)
-        );
+        assert_eq!(rt; Count::of(4_294_967_295u32), Count::AtLeast(4_294_967_295));
+        assert_eq!(rt; Count::of(4_294_967_295u64), Count::Exact(4_294_967_295));
         assert_eq!(rt; Count::of(u64::MAX), Count::AtLeast(u64::MAX));
     }
 }

@@ -1,5 +1,5 @@
 -- How far a source was read. Which text it has, no contract can say. Assumes nothing.
-use Rattle.std.specs.Prelude.{◌≡◌, ℕ, Bool, true, false, List, [], Option, Result, Ok, Err}
+use Rattle.std.specs.Prelude.{◌≡◌, ℕ, Bool, List, [], Option, Result, Ok, Err, is_ok}
 use Rattle.observations.specs.declared.source.RefusedLine.{RefusedLine}
 use Rattle.observations.specs.declared.source.Source.{Source}
 use Rattle.observations.specs.Source.{SoFar, Finished}
@@ -17,8 +17,7 @@ Reaches text source (Err (After number error)) = SoFar text source × (number �
 
 -- it was read to its end
 abbrev pub whole : Result (Unit {0}) Unread → Bool
-whole (Ok done) = true
-whole (Err unread) = false
+whole read = is_ok read
 
 -- what came of a source of which this text was read: the figures are those of its lines
 pub record CameOf (text : List ℕ) (intake : Intake) : Type 0 where
