@@ -41,10 +41,10 @@ impl Bounds {
         ensures value { result ≡ bounds_of band }
         ensures lengths { MatchOption result (16 ≤ band) (Bound band) }
     {
-        match band {
-            0..15 => Some(spanned(EDGES[band], EDGES[band + 1])),
-            15 => Some(Bounds::From(EDGES[band])),
-            _ => None,
-        }
+        let first = *EDGES.get(band)?;
+        Some(match EDGES.get(band + 1) {
+            Some(next) => spanned(first, *next),
+            None => Bounds::From(first),
+        })
     }
 }

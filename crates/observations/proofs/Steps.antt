@@ -159,9 +159,9 @@ no_digit_in a (x ∷ xs) z blank digits some = apart x (all_at BlankByte a x (xs
 
 says_none : {text : List ℕ} → ((n : ℕ) → Writes text n → ⊥) → Says text (Err NotANumber)
 says_none none = record {
-  taken = λ n e. let z : ◌≡◌ {A = ℕ} 0 1 = cc in absurd (omega arith);
+  taken = λ n e. absurd (cc);
   takes = λ n w h. absurd (none n w);
-  too_large = λ e. let z : ◌≡◌ {A = ℕ} 0 1 = cc in absurd (omega arith);
+  too_large = λ e. absurd (cc);
   exceeds = λ n w h. absurd (none n w);
   no_number = λ e. none;
   no_other = λ f. refl;
@@ -171,19 +171,19 @@ says_fits : {text : List ℕ} {n : ℕ} → Writes text n → n < 2 ^ 32 → Say
 says_fits {text} {n} w below = record {
   taken = λ m e. let same : n ≡ m = cc in (subst (Writes text) same w, omega arith);
   takes = λ m v h. ap Ok (one_number w v);
-  too_large = λ e. let z : ◌≡◌ {A = ℕ} 0 1 = cc in absurd (omega arith);
+  too_large = λ e. absurd (cc);
   exceeds = λ m v h. absurd (omega (arith, one_number w v));
-  no_number = λ e. let z : ◌≡◌ {A = ℕ} 0 1 = cc in absurd (omega arith);
+  no_number = λ e. absurd (cc);
   no_other = λ f. absurd (f n w);
 }
 
 says_exceeds : {text : List ℕ} {n : ℕ} → Writes text n → 2 ^ 32 ≤ n → Says text (Err TooLarge)
 says_exceeds {text} {n} w above = record {
-  taken = λ m e. let z : ◌≡◌ {A = ℕ} 0 1 = cc in absurd (omega arith);
+  taken = λ m e. absurd (cc);
   takes = λ m v h. absurd (omega (arith, one_number w v));
   too_large = λ e. (n, w, above);
   exceeds = λ m v h. refl;
-  no_number = λ e. let z : ◌≡◌ {A = ℕ} 0 1 = cc in absurd (omega arith);
+  no_number = λ e. absurd (cc);
   no_other = λ f. absurd (f n w);
 }
 
