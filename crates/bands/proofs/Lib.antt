@@ -1,1 +1,3 @@
-pub mod Tables
+pub mod Bars
+pub mod Edges
+pub mod Shares

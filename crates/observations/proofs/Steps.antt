@@ -1,14 +1,13 @@
 -- What one more byte makes of a line, and what a line says at its end. Assumes nothing.
-use Rattle.std.proofs.Common.{◌≡◌, ℕ, ◌+◌, ◌-◌, ◌*◌, ◌^◌, ◌<◌, ◌≤◌, ltb, ◌⊎◌, List, [], ◌∷◌, ◌++◌, map, length, Ok, Err, sym, refl, ap, ◌∙◌, subst, inl, inr, ⊎_elim, append_assoc, append-nil, arith, length-append}
+use Rattle.std.proofs.Common.{◌≡◌, ℕ, ◌+◌, ◌-◌, ◌*◌, ◌^◌, ◌<◌, ◌≤◌, ltb, ◌⊎◌, List, [], ◌∷◌, ◌++◌, map, length, Some, None, Option, Ok, Err, Result, sym, refl, ap, ◌∙◌, subst, inl, inr, ⊎_elim, append_assoc, append-nil, arith, length-append}
 use Rattle.std.specs.List.{AllByRecursion}
 use Rattle.std.specs.Int.Digits.{number_from_digits}
 use Rattle.std.proofs.lemmas.List.{map_push}
 use Rattle.std.proofs.lemmas.Int.Digits.{number_push}
 use Rattle.std.proofs.ByRecursion.{All-append, All-push, All-weaker}
 use Rattle.std.proofs.lemmas.Bool.{lt-ltb, le-ltb, cases_lt, cond-true, cond-false}
+use Rattle.observations.specs.declared.line.LineFault.{LineFault}
 use Rattle.observations.specs.declared.line.LineFault.TheVariants.{NotANumber, TooLarge}
-use Rattle.observations.specs.declared.line.Amount.{Amount}
-use Rattle.observations.specs.declared.line.Amount.TheVariants.{Fits, Exceeds}
 use Rattle.observations.specs.declared.line.Line.{Line}
 use Rattle.observations.specs.declared.line.Line.TheVariants.{Blanks, Digits, Closed, Broken}
 use Rattle.observations.specs.Line.{BlankByte, DigitByte, worth, Writes, Says}
@@ -73,11 +72,11 @@ known w =
     (All-append Known w.digits w.after (All-weaker DigitByte Known (λ _ h. inr h) w.digits w.all_digits) (All-weaker BlankByte Known (λ _ h. inl h) w.after w.blank_after)))
 
 -- amounts
-amount_fits : (n : ℕ) → n < 2 ^ 32 → amount_of n ≡ Fits n
-amount_fits n h = cond-true (ltb n (2 ^ 32)) (Fits n) Exceeds (lt-ltb n (2 ^ 32) h)
+amount_fits : (n : ℕ) → n < 2 ^ 32 → amount_of n ≡ Some n
+amount_fits n h = cond-true (ltb n (2 ^ 32)) (Some n) None (lt-ltb n (2 ^ 32) h)
 
-amount_exceeds : (n : ℕ) → 2 ^ 32 ≤ n → amount_of n ≡ Exceeds
-amount_exceeds n h = cond-false (ltb n (2 ^ 32)) (Fits n) Exceeds (le-ltb n (2 ^ 32) h)
+amount_exceeds : (n : ℕ) → 2 ^ 32 ≤ n → amount_of n ≡ None
+amount_exceeds n h = cond-false (ltb n (2 ^ 32)) (Some n) None (le-ltb n (2 ^ 32) h)
 
 longer_amount : (n d : ℕ) → longer (amount_of n) d ≡ amount_of (n * 10 + d)
 longer_amount n d =
@@ -160,9 +159,9 @@ no_digit_in a (x ∷ xs) z blank digits some = apart x (all_at BlankByte a x (xs
 
 says_none : {text : List ℕ} → ((n : ℕ) → Writes text n → ⊥) → Says text (Err NotANumber)
 says_none none = record {
-  taken = λ n e. let z : ◌≡◌ {A = ℕ} 0 1 = cc in absurd (omega arith);
+  taken = λ n e. absurd (cc);
   takes = λ n w h. absurd (none n w);
-  too_large = λ e. let z : ◌≡◌ {A = ℕ} 0 1 = cc in absurd (omega arith);
+  too_large = λ e. absurd (cc);
   exceeds = λ n w h. absurd (none n w);
   no_number = λ e. none;
   no_other = λ f. refl;
@@ -172,23 +171,23 @@ says_fits : {text : List ℕ} {n : ℕ} → Writes text n → n < 2 ^ 32 → Say
 says_fits {text} {n} w below = record {
   taken = λ m e. let same : n ≡ m = cc in (subst (Writes text) same w, omega arith);
   takes = λ m v h. ap Ok (one_number w v);
-  too_large = λ e. let z : ◌≡◌ {A = ℕ} 0 1 = cc in absurd (omega arith);
+  too_large = λ e. absurd (cc);
   exceeds = λ m v h. absurd (omega (arith, one_number w v));
-  no_number = λ e. let z : ◌≡◌ {A = ℕ} 0 1 = cc in absurd (omega arith);
+  no_number = λ e. absurd (cc);
   no_other = λ f. absurd (f n w);
 }
 
 says_exceeds : {text : List ℕ} {n : ℕ} → Writes text n → 2 ^ 32 ≤ n → Says text (Err TooLarge)
 says_exceeds {text} {n} w above = record {
-  taken = λ m e. let z : ◌≡◌ {A = ℕ} 0 1 = cc in absurd (omega arith);
+  taken = λ m e. absurd (cc);
   takes = λ m v h. absurd (omega (arith, one_number w v));
   too_large = λ e. (n, w, above);
   exceeds = λ m v h. refl;
-  no_number = λ e. let z : ◌≡◌ {A = ℕ} 0 1 = cc in absurd (omega arith);
+  no_number = λ e. absurd (cc);
   no_other = λ f. absurd (f n w);
 }
 
-says_number : {text : List ℕ} {n : ℕ} (a : Amount) → Writes text n → a ≡ amount_of n → Says text (said_of a)
+says_number : {text : List ℕ} {n : ℕ} (a : Option ℕ) → Writes text n → a ≡ amount_of n → Says text (said_of a)
 says_number {text} {n} a w e =
     subst (λ x. Says text (said_of x)) (sym e)
     (⊎_elim
@@ -201,3 +200,7 @@ says text Blanks h = says_none (λ n w. no_digit_in w.before w.digits w.after (s
 says text (Digits a) h = says_number a h.1 h.3
 says text (Closed a) h = says_number a h.1 h.3
 says text Broken h = says_none (λ n w. h [] n (subst (λ l. Writes l n) (sym (append-nil text)) w))
+
+-- the same of an answer that is what the line says
+pub says_answer : (line : Line) (answer : Result ℕ LineFault) → said line ≡ answer → (text : List ℕ) → Has text line → Says text answer
+says_answer line answer e text h = subst (Says text) e (says text line h)

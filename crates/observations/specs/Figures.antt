@@ -1,5 +1,7 @@
 -- The figures of some lines. Assumes nothing.
-use Rattle.std.specs.Prelude.{◌≡◌, ℕ, ◌+◌, ◌-◌, ◌^◌, min, List, [], ◌∷◌, map, length, Ok, Err, Result}
+use Rattle.std.specs.Prelude.{◌≡◌, ℕ, ◌-◌, ◌^◌, min, List, [], ◌∷◌, map, length, Result}
+use Rattle.std.specs.List.{filter_map}
+use Rattle.std.specs.Result.{result_ok, result_err}
 use Rattle.tally.specs.Kind.{joins}
 use Rattle.tally.specs.Queues.{queues, observed_queue}
 use Rattle.observations.specs.declared.line.LineFault.{LineFault}
@@ -19,15 +21,11 @@ Answers (line ∷ lines) (answer ∷ answers) = Says line answer × Answers line
 
 -- the lengths among some answers
 abbrev pub lengths : List (Result ℕ LineFault) → List ℕ
-lengths [] = []
-lengths (Ok n ∷ answers) = n ∷ lengths answers
-lengths (Err fault ∷ answers) = lengths answers
+lengths answers = filter_map result_ok answers
 
 -- the faults among some answers
 abbrev pub faults : List (Result ℕ LineFault) → List LineFault
-faults [] = []
-faults (Ok n ∷ answers) = faults answers
-faults (Err fault ∷ answers) = fault ∷ faults answers
+faults answers = filter_map result_err answers
 
 -- the figures are those of the lines: the tally joins the observed queue of each line that writes a length,
 -- and the counters say how many lines do, and how many do not
@@ -37,15 +35,3 @@ pub record Counts (lines : List (List ℕ)) (figures : Figures) : Type 0 where
   pub tally : figures.tally ≡ joins queues (map observed_queue (lengths answers))
   pub taken : figures.taken ≡ stopped (length (lengths answers))
   pub refused : figures.refused ≡ stopped (length (faults answers))
-
--- one observed length more
-abbrev pub Observed : Figures → ℕ → Figures → Type 0
-Observed before n after = (after.tally ≡ queues.join before.tally (observed_queue n)) × (after.taken ≡ stopped (before.taken + 1)) × (after.refused ≡ before.refused)
-
--- one refused line more
-abbrev pub Refused : Figures → Figures → Type 0
-Refused before after = (after.tally ≡ before.tally) × (after.taken ≡ before.taken) × (after.refused ≡ stopped (before.refused + 1))
-
--- both figures as one
-abbrev pub Together : Figures → Figures → Figures → Type 0
-Together one other both = (both.tally ≡ queues.join one.tally other.tally) × (both.taken ≡ stopped (one.taken + other.taken)) × (both.refused ≡ stopped (one.refused + other.refused))

@@ -2,6 +2,7 @@
 use Rattle.std.specs.Prelude.{◌≡◌, ℕ, ◌+◌, Bool, true, false, List, [], ◌∷◌, ◌++◌, length, Some, None, Ok, Err, Option, Result}
 use Rattle.std.specs.List.{flat_map, AllByRecursion}
 use Rattle.observations.specs.declared.line.LineFault.{LineFault}
+use Rattle.observations.specs.declared.line.Line.{Line}
 use Rattle.observations.specs.declared.source.RefusedLine.{RefusedLine}
 use Rattle.observations.specs.declared.source.Source.{Source}
 use Rattle.observations.specs.Line.{Says}
@@ -26,6 +27,11 @@ abbrev pub some_byte : List ℕ → Bool
 some_byte [] = false
 some_byte (b ∷ bytes) = true
 
+-- the line in hand is the rest, where that has a byte
+abbrev pub InHand : List ℕ → Option Line → Type 0
+InHand rest None = rest ≡ []
+InHand rest (Some line) = (some_byte rest ≡ true) × Has rest line
+
 -- what was read of a source whose text so far is this
 pub record SoFar (text : List ℕ) (source : Source) : Type 0 where
   pub lines : List (List ℕ)
@@ -33,8 +39,7 @@ pub record SoFar (text : List ℕ) (source : Source) : Type 0 where
   pub cut : Cut text lines rest
   pub counts : Counts lines source.figures
   pub ended : source.ended ≡ stopped (length lines)
-  pub line : Has rest source.line
-  pub begun : source.begun ≡ some_byte rest
+  pub line : InHand rest source.line
 
 -- a line is given back where it is refused
 abbrev pub refusal : ℕ → Result ℕ LineFault → Option RefusedLine
@@ -55,19 +60,12 @@ pub record Answered (text : List ℕ) (byte : ℕ) (r : Option RefusedLine) : Ty
   pub at_newline : byte ≡ 10 → Told lines rest r
   pub elsewhere : Plain byte → r ≡ None
 
--- what a byte that is added to the rest leaves: the line in hand has begun
-pub record Kept (before after : Source) : Type 0 where
-  pub figures : after.figures ≡ before.figures
-  pub ended : after.ended ≡ before.ended
-  pub begun : after.begun ≡ true
-
--- the rest ends as a line
-pub record LineEnded (lines : List (List ℕ)) (rest : List ℕ) (before after : Source) (r : Option RefusedLine) : Type 0 where
-  pub counts : Counts lines before.figures → Has rest before.line → Counts (lines ++ rest ∷ []) after.figures
+-- the rest ends as a line, of which this was read
+pub record LineEnded (lines : List (List ℕ)) (rest : List ℕ) (hand : Line) (before after : Source) (r : Option RefusedLine) : Type 0 where
+  pub counts : Counts lines before.figures → Has rest hand → Counts (lines ++ rest ∷ []) after.figures
   pub ended : before.ended ≡ stopped (length lines) → after.ended ≡ stopped (length lines + 1)
-  pub line : Has [] after.line
-  pub begun : after.begun ≡ false
-  pub told : before.ended ≡ stopped (length lines) → Has rest before.line → Told lines rest r
+  pub line : after.line ≡ before.line
+  pub told : before.ended ≡ stopped (length lines) → Has rest hand → Told lines rest r
 
 -- the rest, if it has a byte, is a line too
 abbrev pub last_line : List ℕ → List (List ℕ)

@@ -1,8 +1,7 @@
 //! The figures of some lines: the tally of the lengths taken, and how many lines were taken and refused.
-ghost use Rattle.std.specs.Prelude.{◌≡◌, ℕ, ◌+◌, List, [], ◌∷◌, ◌++◌};
-ghost use Rattle.tally.specs.Queues.{queues, observed_queue};
+ghost use Rattle.std.specs.Prelude.{ℕ, List, [], ◌∷◌, ◌++◌};
 ghost use Rattle.observations.specs.Line.{Says};
-ghost use Rattle.observations.specs.Figures.{stopped, Counts, Observed, Refused, Together};
+ghost use Rattle.observations.specs.Figures.{Counts};
 
 use crate::line::LineFault;
 use tally::kind::Tally;
@@ -19,13 +18,6 @@ pub struct Figures {
     pub refused: u64,
 }
 
-/// One more than a counter, which stops at its largest.
-pub fn raised(counter: u64) -> u64
-    ensures { result ≡ stopped (counter + 1) }
-{
-    counter.saturating_add(1)
-}
-
 impl Figures {
     /// The figures of no line.
     pub fn new() -> Figures
@@ -39,49 +31,26 @@ impl Figures {
     }
 
     /// Counts one more line, by the answer to it.
+    #[tactic(auto, using(crate::proofs::Joining::count_taken, crate::proofs::Joining::count_refused))]
     pub fn count(&mut self, answer: Result<u32, LineFault>)
         ensures { (lines : List (List ℕ)) (line : List ℕ) → Counts lines self.old → Says line answer → Counts (lines ++ line ∷ []) self.new }
     {
-        *self = match answer {
-            Ok(length) => self.observed(length),
-            Err(_) => self.refused(),
-        };
+        match answer {
+            Ok(length) => {
+                self.tally.join(&Queues::observed(length));
+                self.taken = self.taken.saturating_add(1);
+            }
+            Err(_) => self.refused = self.refused.saturating_add(1),
+        }
     }
 
     /// Counts the lines of other figures too.
+    #[tactic(auto, using(crate::proofs::Joining::counts_together))]
     pub fn join(&mut self, other: &Figures)
         ensures { (lines more : List (List ℕ)) → Counts lines self.old → Counts more other.now → Counts (lines ++ more) self.new }
     {
-        *self = self.together(other);
-    }
-
-    fn observed(&self, length: u32) -> Figures
-        ensures { Observed self.now length result }
-    {
-        Figures {
-            tally: self.tally.joined(&Queues::observed(length)),
-            taken: raised(self.taken),
-            refused: self.refused,
-        }
-    }
-
-    fn refused(&self) -> Figures
-        ensures { Refused self.now result }
-    {
-        Figures {
-            tally: self.tally,
-            taken: self.taken,
-            refused: raised(self.refused),
-        }
-    }
-
-    fn together(&self, other: &Figures) -> Figures
-        ensures { Together self.now other.now result }
-    {
-        Figures {
-            tally: self.tally.joined(&other.tally),
-            taken: self.taken.saturating_add(other.taken),
-            refused: self.refused.saturating_add(other.refused),
-        }
+        self.tally.join(&other.tally);
+        self.taken = self.taken.saturating_add(other.taken);
+        self.refused = self.refused.saturating_add(other.refused);
     }
 }

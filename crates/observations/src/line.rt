@@ -1,7 +1,7 @@
 //! One line of text, read a byte at a time: the number that it writes, or why it writes none.
-ghost use Rattle.std.specs.Prelude.{◌≡◌, ℕ, List, [], ◌∷◌, ◌++◌};
+ghost use Rattle.std.specs.Prelude.{◌≡◌, ℕ, ◌+◌, ◌*◌, List, [], ◌∷◌, ◌++◌};
 ghost use Rattle.observations.specs.Line.{Says};
-ghost use Rattle.observations.specs.Reader.{Marks, Has, amount_of, longer, after_blank, after_digit, said};
+ghost use Rattle.observations.specs.Reader.{Marks, Has, amount_of, after_blank, after_digit};
 
 use std::fmt;
 
@@ -31,90 +31,73 @@ enum Mark {
     Other,
 }
 
-/// The number that some digits write, as far as a length can hold it.
-#[derive(Clone, Copy)]
-pub enum Amount {
-    Fits(u32),
-    Exceeds,
-}
-
 /// What the bytes of a line are so far. It takes the same room however long the line is.
-#[derive(Clone, Copy)]
+#[derive(Clone, Copy, PartialEq, Eq, Debug)]
 pub enum Line {
     /// Blanks only, or nothing.
     Blanks,
-    /// Blanks, then digits.
-    Digits(Amount),
+    /// Blanks, then digits, and their number where a length can hold it.
+    Digits(Option<u32>),
     /// Blanks, digits, then blanks.
-    Closed(Amount),
+    Closed(Option<u32>),
     /// No line that begins so writes a number.
     Broken,
 }
 
-fn marked(byte: u8) -> Mark
-    ensures { Marks byte result }
-{
-    match byte {
-        b' ' | b'\t' | b'\r' => Mark::Blank,
-        b'0'..=b'9' => Mark::Digit(byte - b'0'),
-        _ => Mark::Other,
+impl From<u8> for Mark {
+    ghost from_gives = { Marks };
+
+    fn from(byte: u8) -> Mark {
+        match byte {
+            b' ' | b'\t' | b'\r' => Mark::Blank,
+            b'0'..=b'9' => Mark::Digit(byte - b'0'),
+            _ => Mark::Other,
+        }
     }
 }
 
-impl Amount {
-    fn of(number: u64) -> Amount
-        ensures { result ≡ amount_of number }
-    {
-        if number <= 4_294_967_295 {
-            Amount::Fits(number as u32)
-        } else {
-            Amount::Exceeds
-        }
-    }
-
-    /// The amount with one more digit behind it.
-    fn longer(self, digit: u8) -> Amount
-        ensures { result ≡ longer self digit }
-    {
-        match self {
-            Amount::Fits(front) => Amount::of(u64::from(front) * 10 + u64::from(digit)),
-            Amount::Exceeds => Amount::Exceeds,
-        }
-    }
+// The number with one more digit behind it, where a length can hold it.
+fn longer(number: u32, digit: u8) -> Option<u32>
+    ensures { result ≡ amount_of (number * 10 + digit) }
+{
+    number.checked_mul(10)?.checked_add(u32::from(digit))
 }
 
 impl Line {
     /// A line of which no byte was taken yet.
-    pub fn new() -> Line
+    pub fn new() -> Self
         ensures { Has [] result }
     {
-        Line::Blanks
+        Self::Blanks
     }
 
     /// Takes the next byte of the line.
     pub fn take(&mut self, byte: u8)
         ensures { (text : List ℕ) → Has text self.old → Has (text ++ byte ∷ []) self.new }
     {
-        let line = *self;
-        *self = match marked(byte) {
-            Mark::Blank => line.after_blank(),
-            Mark::Digit(digit) => line.after_digit(digit),
+        *self = match Mark::from(byte) {
+            Mark::Blank => self.after_blank(),
+            Mark::Digit(digit) => self.after_digit(digit),
             Mark::Other => Line::Broken,
         };
     }
 
     /// The number that the line writes, now that all its bytes are taken.
+    #[tactic(auto, using(crate::proofs::Steps::says_answer))]
     pub fn end(&self) -> Result<u32, LineFault>
         ensures { (text : List ℕ) → Has text self.now → Says text result }
     {
-        self.answer()
+        match self {
+            Line::Digits(number) | Line::Closed(number) => number.ok_or(LineFault::TooLarge),
+            Line::Blanks | Line::Broken => Err(LineFault::NotANumber),
+        }
     }
 
     fn after_blank(self) -> Line
         ensures { result ≡ after_blank self }
     {
         match self {
-            Line::Digits(amount) => Line::Closed(amount),
+            Line::Digits(number) => Line::Closed(number),
             _ => self,
         }
     }
@@ -123,21 +106,9 @@ impl Line {
         ensures { result ≡ after_digit self digit }
     {
         match self {
-            Line::Blanks => Line::Digits(Amount::of(u64::from(digit))),
-            Line::Digits(front) => Line::Digits(front.longer(digit)),
+            Line::Blanks => Line::Digits(Some(u32::from(digit))),
+            Line::Digits(front) => Line::Digits(front.and_then(|number| longer(number, digit))),
             Line::Closed(_) | Line::Broken => Line::Broken,
-        }
-    }
-
-    fn answer(&self) -> Result<u32, LineFault>
-        ensures { result ≡ said self.now }
-    {
-        match self {
-            Line::Digits(Amount::Fits(length)) | Line::Closed(Amount::Fits(length)) => Ok(*length),
-            Line::Digits(Amount::Exceeds) | Line::Closed(Amount::Exceeds) => Err(
-                LineFault::TooLarge,
-            ),
-            Line::Blanks | Line::Broken => Err(LineFault::NotANumber),
         }
     }
 }

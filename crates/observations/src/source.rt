@@ -1,9 +1,8 @@
 //! One source of lines, read a byte at a time in the same room however long it is.
 ghost use Rattle.std.specs.Prelude.{◌≡◌, ℕ, List, [], ◌∷◌, ◌++◌};
-ghost use Rattle.observations.specs.Reader.{Has};
-ghost use Rattle.observations.specs.Source.{SoFar, Answered, Kept, LineEnded, Finished, refusal};
+ghost use Rattle.observations.specs.Source.{SoFar, Answered, LineEnded, Finished};
 
-use crate::figures::{Figures, raised};
+use crate::figures::Figures;
 use crate::line::{Line, LineFault};
 
 const NEWLINE: u8 = b'\n';
@@ -22,19 +21,8 @@ pub struct Source {
     figures: Figures,
     /// How many lines ended.
     ended: u64,
-    /// The line in hand.
-    line: Line,
-    /// Whether the line in hand has a byte.
-    begun: bool,
-}
-
-fn refused_at(number: u64, answer: Result<u32, LineFault>) -> Option<RefusedLine>
-    ensures { result ≡ refusal number answer }
-{
-    match answer {
-        Ok(_) => None,
-        Err(fault) => Some(RefusedLine { number, fault }),
-    }
+    /// The line in hand, where it has a byte.
+    line: Option<Line>,
 }
 
 impl Source {
@@ -45,8 +33,7 @@ impl Source {
         Source {
             figures: Figures::new(),
             ended: 0,
-            line: Line::new(),
-            begun: false,
+            line: None,
         }
     }
 
@@ -55,9 +42,10 @@ impl Source {
         ensures { (text : List ℕ) → SoFar text self.old → SoFar (text ++ byte ∷ []) self.new × Answered text byte result }
     {
         if byte == NEWLINE {
-            return self.end_line();
+            let line = self.line.take().unwrap_or(Line::new());
+            return self.end_line(line);
         }
-        self.add(byte);
+        self.line.get_or_insert(Line::new()).take(byte);
         None
     }
 
@@ -65,7 +53,8 @@ impl Source {
     pub fn finish(&mut self) -> Option<RefusedLine>
         ensures { (text : List ℕ) → SoFar text self.old → Finished text self.new result }
     {
-        if self.begun { self.end_line() } else { None }
+        let line = self.line.take()?;
+        self.end_line(line)
     }
 
     /// The figures of the lines that ended.
@@ -82,24 +71,14 @@ impl Source {
         self.ended
     }
 
-    // Adds a byte to the line in hand.
-    fn add(&mut self, byte: u8)
-        ensures rest { Kept self.old self.new }
-        ensures line { (rest : List ℕ) → Has rest self.old.line → Has (rest ++ byte ∷ []) self.new.line }
+    // Counts a line that ended.
+    fn end_line(&mut self, line: Line) -> Option<RefusedLine>
+        ensures { (lines : List (List ℕ)) (rest : List ℕ) → LineEnded lines rest line self.old self.new result }
     {
-        self.line.take(byte);
-        self.begun = true;
-    }
-
-    // Ends the line in hand.
-    fn end_line(&mut self) -> Option<RefusedLine>
-        ensures { (lines : List (List ℕ)) (rest : List ℕ) → LineEnded lines rest self.old self.new result }
-    {
-        let answer = self.line.end();
+        let answer = line.end();
         self.figures.count(answer);
-        self.ended = raised(self.ended);
-        self.line = Line::new();
-        self.begun = false;
-        refused_at(self.ended, answer)
+        self.ended = self.ended.saturating_add(1);
+        let number = self.ended;
+        answer.err().map(|fault| RefusedLine { number, fault })
     }
 }

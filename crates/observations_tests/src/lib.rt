@@ -3,7 +3,10 @@
 
 #[cfg(test)]
 mod tests {
-    use bands::{Bar, Bounds, Count, Share};
+    use bands::bar::Bar;
+    use bands::bounds::Bounds;
+    use bands::count::Count;
+    use bands::share::Share;
     use observations::figures::Figures;
     use observations::line::{Line, LineFault};
     use observations::source::{RefusedLine, Source};
@@ -43,13 +46,9 @@ mod tests {
         let mut source = Source::new();
         let mut last = None;
         for byte in text {
-            if let Some(refused) = source.take(*byte) {
-                last = Some(refused);
-            }
+            last = source.take(*byte).or(last);
         }
-        if let Some(refused) = source.finish() {
-            last = Some(refused);
-        }
+        last = source.finish().or(last);
         (last, source.figures())
     }
 
@@ -101,10 +100,9 @@ mod tests {
         assert_eq!(rt; Bounds::of(9), Some(Bounds::Between(13, 15)));
         assert_eq!(rt; Bounds::of(15), Some(Bounds::From(50)));
         assert_eq!(rt; Bounds::of(16), None);
-        assert_eq!(rt; Count::of_band(7), Count::Exact(7));
-        assert_eq!(rt;
-            Count::of_band(4_294_967_295),
-            Count::AtLeast(4_294_967_295)
-        );
+        assert_eq!(rt; Count::of(7u32), Count::Exact(7));
+        assert_eq!(rt; Count::of(4_294_967_295u32), Count::AtLeast(4_294_967_295));
+        assert_eq!(rt; Count::of(4_294_967_295u64), Count::Exact(4_294_967_295));
+        assert_eq!(rt; Count::of(u64::MAX), Count::AtLeast(u64::MAX));
     }
 }

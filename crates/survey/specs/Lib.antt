@@ -1,2 +1,2 @@
-pub mod Extent
+pub mod Intake
 pub mod Totals

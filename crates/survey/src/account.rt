@@ -3,10 +3,12 @@ ghost use Rattle.std.specs.Prelude.{◌≡◌, [], OnOk};
 ghost use Rattle.observations.specs.Figures.{Counts};
 ghost use Rattle.survey.specs.Totals.{Added};
 
-use crate::intake::{Extent, Intake};
-use bands::{Count, Row, Table};
-use observations::figures::{Figures, raised};
+use crate::intake::Intake;
+use bands::count::Count;
+use bands::table::{Row, Table};
+use observations::figures::Figures;
 use std::io;
+use tally::queues::EDGES;
 
 /// What all sources so far came to.
 #[derive(Clone, Copy)]
@@ -16,25 +18,13 @@ pub struct Totals {
     unread: u64,
 }
 
-fn tell_extent(rt: &HostRuntime, extent: &Extent) -> io::Result<()> {
-    match extent {
-        Extent::Whole => Ok(()),
-        Extent::Nothing(error) => println!(rt; "  could not be read: {error}"),
-        Extent::Part(ended, error) => {
-            let number = Count::of_counter(*ended);
-            println!(rt;
-                "  reading stopped after line {number}: {error}; the lines up to there are counted"
-            )
-        }
-    }
-}
-
 fn tell_counts(rt: &HostRuntime, figures: &Figures) -> io::Result<()> {
-    let taken = Count::of_counter(figures.taken);
-    let refused = Count::of_counter(figures.refused);
+    let taken = Count::of(figures.taken);
+    let refused = Count::of(figures.refused);
     println!(rt; "  observations taken: {taken}, lines refused: {refused}")
 }
 
+// Padding goes by a text's length, so each part of the row is made a text first.
 fn tell_row(rt: &HostRuntime, row: &Row) -> io::Result<()> {
     let bounds = row.bounds.to_string(rt.alloc())?;
     let count = row.count.to_string(rt.alloc())?;
@@ -51,16 +41,11 @@ fn tell_sum(rt: &HostRuntime, table: &Table) -> io::Result<()> {
 
 fn tell_table(rt: &HostRuntime, table: &Table) -> io::Result<()> {
     println!(rt; "\nlength  observations   share")?;
-    for band in 0..BANDS {
-        if let Some(row) = table.row(band) {
-            tell_row(rt, &row)?;
-        }
+    for row in (0..EDGES.len()).filter_map(|band| table.row(band)) {
+        tell_row(rt, &row)?;
     }
     tell_sum(rt, table)
 }
-
-/// How many bands a tally has.
-const BANDS: usize = 16;
 
 impl Totals {
     /// The totals of no source.
@@ -78,12 +63,14 @@ impl Totals {
     pub fn add(&mut self, rt: &HostRuntime, intake: &Intake) -> io::Result<()>
         ensures { OnOk result (Added self.old intake.now self.new) }
     {
-        tell_extent(rt, &intake.extent)?;
+        if let Err(unread) = &intake.read {
+            println!(rt; "  {unread}")?;
+        }
         tell_counts(rt, &intake.figures)?;
         self.figures.join(&intake.figures);
-        self.sources = raised(self.sources);
-        if !intake.is_whole() {
-            self.unread = raised(self.unread);
+        self.sources = self.sources.saturating_add(1);
+        if intake.read.is_err() {
+            self.unread = self.unread.saturating_add(1);
         }
         Ok(())
     }
@@ -99,10 +86,10 @@ impl Totals {
     pub fn tell(&self, rt: &HostRuntime) -> io::Result<()> {
         let table = Table::of(&self.figures.tally);
         tell_table(rt, &table)?;
-        let sources = Count::of_counter(self.sources);
-        let taken = Count::of_counter(self.figures.taken);
-        let refused = Count::of_counter(self.figures.refused);
-        let unread = Count::of_counter(self.unread);
+        let sources = Count::of(self.sources);
+        let taken = Count::of(self.figures.taken);
+        let refused = Count::of(self.figures.refused);
+        let unread = Count::of(self.unread);
         if !(table.total().is_exact() && taken.is_exact() && refused.is_exact()) {
             println!(rt; "A number after >= is a lower bound: its counter has reached its stop.")?;
         }

@@ -1,50 +1,52 @@
 //! Reading a source in chunks, and telling each refused line as it is met.
-ghost use Rattle.std.specs.Prelude.{◌≡◌, ℕ, List, ◌++◌, IfOk, OnOk};
+ghost use Rattle.std.specs.Prelude.{◌≡◌, ℕ, List, ◌++◌, ◌⊎◌, IfOk, OnOk};
 ghost use Rattle.observations.specs.Source.{SoFar};
-ghost use Rattle.survey.specs.Extent.{Reaches, whole};
+ghost use Rattle.survey.specs.Intake.{Reaches, CameOf, NothingRead};
 
-use bands::Count;
+use bands::count::Count;
 use observations::figures::Figures;
 use observations::source::{RefusedLine, Source};
 use std::fs::File;
-use std::io;
 use std::io::Read;
+use std::{fmt, io};
 
 /// How many bytes are read at a time.
 const CHUNK: usize = 65_536;
 
-/// How far a source was read.
+/// Why a source was not read to its end.
 #[derive(Drop)]
-pub enum Extent {
-    /// To its end.
-    Whole,
-    /// Not at all.
+pub enum Unread {
+    /// Nothing of it could be read.
     Nothing(io::Error),
-    /// Up to an error, which came after the line of this number.
-    Part(u64, io::Error),
+    /// Reading stopped at an error, which came after the line of this number.
+    After(u64, io::Error),
+}
+
+impl fmt::Display for Unread {
+    fn fmt<W: fmt::Write>(&self, f: &mut fmt::Formatter<W>) -> fmt::Result {
+        match self {
+            Unread::Nothing(error) => write!(f, "could not be read: {error}"),
+            Unread::After(ended, error) => {
+                let number = Count::of(*ended);
+                write!(
+                    f,
+                    "reading stopped after line {number}: {error}; the lines up to there are counted"
+                )
+            }
+        }
+    }
 }
 
 /// What came of one source.
 #[derive(Drop)]
 pub struct Intake {
     pub figures: Figures,
-    pub extent: Extent,
-}
-
-impl Intake {
-    /// Whether the source was read to its end.
-    pub fn is_whole(&self) -> bool
-        ensures { result ≡ whole self.now.extent }
-    {
-        match &self.extent {
-            Extent::Whole => true,
-            Extent::Nothing(_) | Extent::Part(_, _) => false,
-        }
-    }
+    /// Whether it was read to its end.
+    pub read: Result<(), Unread>,
 }
 
 fn tell_refused(rt: &HostRuntime, refused: &RefusedLine) -> io::Result<()> {
-    let number = Count::of_counter(refused.number);
+    let number = Count::of(refused.number);
     let fault = refused.fault;
     println!(rt; "  line {number} refused: {fault}")
 }
@@ -61,54 +63,70 @@ fn take_chunk(rt: &HostRuntime, source: &mut Source, bytes: &[u8]) -> io::Result
     Ok(())
 }
 
-fn end(rt: &HostRuntime, source: &mut Source) -> io::Result<Extent>
-    ensures { IfOk result (λ extent. (text : List ℕ) → SoFar text source.old → Reaches text source.new extent) }
+// Ends a source of which all was read.
+fn end(rt: &HostRuntime, source: &mut Source) -> io::Result<()>
+    ensures { OnOk result ((text : List ℕ) → SoFar text source.old → Reaches text source.new (Ok tt)) }
 {
     if let Some(refused) = source.finish() {
         tell_refused(rt, &refused)?;
     }
-    Ok(Extent::Whole)
+    Ok(())
 }
 
-fn read_all<R: Read>(rt: &HostRuntime, input: &mut R, source: &mut Source) -> io::Result<Extent> {
-    let mut buffer = [0u8; CHUNK];
+// Reads a source to its end or up to an error; an error in telling a refused line is another matter.
+fn read_all<R: Read>(
+    rt: &HostRuntime,
+    input: &mut R,
+    source: &mut Source,
+) -> io::Result<Result<(), Unread>>
+    ensures { IfOk result (λ read. (text : List ℕ) → SoFar text source.old → (more : List ℕ) × Reaches (text ++ more) source.new read) }
+{
+    let mut buffer = [0; CHUNK];
+    // A loop with no end would ask for a handle that may wait for ever; this count is never reached.
     for _ in 0..u64::MAX {
         match input.read(&mut buffer) {
-            Ok(0) => return end(rt, source),
-            Ok(count) => take_chunk(rt, source, &buffer[0..count])?,
-            Err(error) => {
-                if error.kind() != io::ErrorKind::Interrupted {
-                    return Ok(Extent::Part(source.ended(), error));
-                }
+            Ok(0) => {
+                end(rt, source)?;
+                return Ok(Ok(()));
             }
+            Ok(count) => take_chunk(rt, source, &buffer[..count])?,
+            Err(error) if error.kind() == io::ErrorKind::Interrupted => {}
+            Err(error) => return Ok(Err(Unread::After(source.ended(), error))),
         }
     }
-    Ok(Extent::Part(source.ended(), io::Error::from(io::ErrorKind::Other)))
+    let error = io::Error::from(io::ErrorKind::Other);
+    Ok(Err(Unread::After(source.ended(), error)))
 }
 
-fn taken_in<R: Read>(rt: &HostRuntime, input: &mut R) -> io::Result<Intake> {
+fn taken_in<R: Read>(rt: &HostRuntime, input: &mut R) -> io::Result<Intake>
+    ensures { IfOk result (λ intake. (text : List ℕ) × CameOf text intake) }
+{
     let mut source = Source::new();
-    let extent = read_all(rt, input, &mut source)?;
+    let read = read_all(rt, input, &mut source)?;
     Ok(Intake {
         figures: source.figures(),
-        extent,
+        read,
     })
 }
 
 /// Reads standard input.
-pub fn from_stdin(rt: &HostRuntime) -> io::Result<Intake> {
+pub fn from_stdin(rt: &HostRuntime) -> io::Result<Intake>
+    ensures { IfOk result (λ intake. (text : List ℕ) × CameOf text intake) }
+{
     println!(rt; "source standard input")?;
     taken_in(rt, &mut rt.stdin())
 }
 
 /// Reads the file of this name.
-pub fn from_file(rt: &HostRuntime, name: &str) -> io::Result<Intake> {
+pub fn from_file(rt: &HostRuntime, name: &str) -> io::Result<Intake>
+    ensures { IfOk result (λ intake. NothingRead intake ⊎ ((text : List ℕ) × CameOf text intake)) }
+{
     println!(rt; "source {name}")?;
     match File::open(rt, name) {
         Ok(mut file) => taken_in(rt, &mut file),
         Err(error) => Ok(Intake {
             figures: Figures::new(),
-            extent: Extent::Nothing(error),
+            read: Err(Unread::Nothing(error)),
         }),
     }
 }

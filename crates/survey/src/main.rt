@@ -8,36 +8,13 @@ use account::Totals;
 use anyhow::anyhow;
 use std::{env, io};
 
-fn help(rt: &HostRuntime) -> io::Result<()> {
-    println!(rt; "survey [FILE]..: tally observed queue lengths.")?;
-    println!(rt;
-        "Each line of a FILE, or of standard input where none is named, is one queue length:"
-    )?;
-    println!(rt;
-        "decimal digits, at most 4294967295; spaces, tabs and carriage returns before and after are ignored."
-    )?;
-    println!(rt;
-        "A line that is not so is refused, named by its number, and left out of the tally."
-    )?;
-    println!(rt;
-        "Printed are the refused lines and the counts of each FILE, then one table of all lengths in sixteen bands:"
-    )?;
-    println!(rt;
-        "count, share in percent and a bar beside the largest count. A number after >= is a lower bound."
-    )?;
-    println!(rt;
-        "The status is 1 where a FILE could not be read to its end; the others are tallied all the same."
-    )
-}
-
-fn asks_help(names: &[String]) -> bool {
-    for name in names {
-        if name.as_str() == "--help" {
-            return true;
-        }
-    }
-    false
-}
+const HELP: &str = "survey [FILE]..: tally observed queue lengths.
+Each line of a FILE, or of standard input where none is named, is one queue length:
+decimal digits, at most 4294967295; spaces, tabs and carriage returns before and after are ignored.
+A line that is not so is refused, named by its number, and left out of the tally.
+Printed are the refused lines and the counts of each FILE, then one table of all lengths in sixteen bands:
+count, share in percent and a bar beside the largest count. A number after >= is a lower bound.
+The status is 1 where a FILE could not be read to its end; the others are tallied all the same.";
 
 fn survey(rt: &HostRuntime, names: &[String]) -> io::Result<Totals> {
     let mut totals = Totals::new();
@@ -52,12 +29,9 @@ fn survey(rt: &HostRuntime, names: &[String]) -> io::Result<Totals> {
 }
 
 fn run(rt: &HostRuntime) -> anyhow::Result<()> {
-    let mut names: Vec<String> = Vec::new(rt.alloc());
-    for name in env::args(rt)?.skip(1) {
-        names.push(name)?;
-    }
-    if asks_help(names.as_slice()) {
-        help(rt)?;
+    let names: Vec<String> = env::args(rt)?.skip(1).collect(rt.alloc())?;
+    if names.iter().any(|name| name.as_str() == "--help") {
+        println!(rt; "{HELP}")?;
         return Ok(());
     }
     let totals = survey(rt, names.as_slice())?;
