@@ -1,5 +1,5 @@
 -- The least key above a given one.
-use Rattle.std.proofs.Common.{◌≡◌, ℕ, zero, suc, ◌<◌, ◌≤◌, true, false, cond, ◌⊎◌, List, [], ◌∷◌, get_or, Some, None, Option, sym, refl, ◌∙◌, subst, inl, inr, ⊎_elim, arith}
+use Rattle.std.proofs.Common.{◌≡◌, ℕ, zero, suc, ◌+◌, ◌<◌, ◌≤◌, true, false, cond, ◌⊎◌, List, [], ◌∷◌, get_or, Some, None, Option, sym, refl, ◌∙◌, subst, inl, inr, ⊎_elim, arith}
 use Rattle.std.specs.List.{fold, reduce}
 use Rattle.std.proofs.lemmas.Bool.{cases_Bool, both_ways, cond_both}
 use Rattle.std.proofs.lemmas.Option.{none-some}
@@ -143,23 +143,27 @@ module _ {R Key : Type 0} (keyed : Keyed R Key) where
   fewer_cell None k x a = cond_both (keyed.before k x) 1 0 (λ n. n ≤ 1) (λ _. omega arith) (λ _. omega arith)
   fewer_cell (Some l) k x a = cond_both (keyed.before k x) 1 0 (λ n. n ≤ cond (keyed.before l x) 1 0) (λ t. rw (keyed.transitive l k x a t) (omega arith)) (λ _. omega arith)
 
+  left_cons : (last : Option Key) (r : R) (cs : List (Option R)) → left_above keyed last (Some r ∷ cs) ≡ cond (above keyed last (keyed.key r)) 1 0 + left_above keyed last cs
+  left_cons last r cs = ⊎_elim
+      (λ (t : above keyed last (keyed.key r) ≡ true). rw t (omega arith))
+      (λ (f : above keyed last (keyed.key r) ≡ false). rw f (omega arith))
+      (cases_Bool (above keyed last (keyed.key r)))
+
   fewer_row : (last : Option Key) (k : Key) → above keyed last k ≡ true → (cells : List (Option R)) → left_above keyed (Some k) cells ≤ left_above keyed last cells
-  unfolding left_above
   fewer_row last k a [] = omega arith
   fewer_row last k a (None ∷ cs) = fewer_row last k a cs
-  fewer_row last k a (Some r ∷ cs) = omega (arith, fewer_cell last k (keyed.key r) a, fewer_row last k a cs)
+  fewer_row last k a (Some r ∷ cs) = omega (arith, left_cons (Some k) r cs, left_cons last r cs, fewer_cell last k (keyed.key r) a, fewer_row last k a cs)
 
   fewer_at : (last : Option Key) (cells : List (Option R)) (i : ℕ) (r : R) → get_or cells i None ≡ Some r → above keyed last (keyed.key r) ≡ true → left_above keyed (Some (keyed.key r)) cells < left_above keyed last cells
-  unfolding left_above
   fewer_at last [] i r e a = absurd (none-some r e)
   fewer_at last (None ∷ cs) zero r e a = absurd (none-some r e)
   fewer_at last (Some x ∷ cs) zero r e a =
       let h : x ≡ r = cc in
       let old : ◌≡◌ {A = ℕ} (cond (above keyed last (keyed.key x)) 1 0) 1 = rw (h, a) in
       let new : ◌≡◌ {A = ℕ} (cond (keyed.before (keyed.key r) (keyed.key x)) 1 0) 0 = rw (h, keyed.irreflexive (keyed.key r)) in
-      omega (arith, old, new, fewer_row last (keyed.key r) a cs)
+      omega (arith, old, new, left_cons (Some (keyed.key r)) x cs, left_cons last x cs, fewer_row last (keyed.key r) a cs)
   fewer_at last (None ∷ cs) (suc i) r e a = fewer_at last cs i r e a
-  fewer_at last (Some x ∷ cs) (suc i) r e a = omega (arith, fewer_cell last (keyed.key r) (keyed.key x) a, fewer_at last cs i r e a)
+  fewer_at last (Some x ∷ cs) (suc i) r e a = omega (arith, left_cons (Some (keyed.key r)) x cs, left_cons last x cs, fewer_cell last (keyed.key r) (keyed.key x) a, fewer_at last cs i r e a)
 
   -- so a walk from key to key ends
   pub fewer_above : (cells : List (Option R)) (last : Option Key) (i : ℕ) → (n : HasNext keyed cells last i) → left_above keyed (Some (keyed.key n.found)) cells < left_above keyed last cells

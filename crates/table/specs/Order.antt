@@ -1,5 +1,5 @@
 -- The least key above a given one.
-use Rattle.std.specs.Prelude.{◌≡◌, ℕ, ◌+◌, Bool, true, cond, List, map, [], ◌∷◌, Some, None, Option, slice_index_or}
+use Rattle.std.specs.Prelude.{◌≡◌, ℕ, Bool, true, List, map, length, Some, None, Option, slice_index_or}
 use Rattle.std.specs.List.{filter, flat_map, reduce}
 use Rattle.std.specs.Option.{option_to_list}
 use Rattle.std.specs.Ordering.{min_by_ordering}
@@ -41,7 +41,5 @@ NextAbove {R} {Key} keyed cells last None = (k : Key) → above keyed last k ≡
 NextAbove keyed cells last (Some i) = HasNext keyed cells last i
 
 -- how many records have a key above the last one
-unfoldable pub left_above : {R Key : Type 0} → Keyed R Key → Option Key → List (Option R) → ℕ
-left_above keyed last [] = 0
-left_above keyed last (None ∷ cs) = left_above keyed last cs
-left_above keyed last (Some r ∷ cs) = cond (above keyed last (keyed.key r)) 1 0 + left_above keyed last cs
+abbrev pub left_above : {R Key : Type 0} → Keyed R Key → Option Key → List (Option R) → ℕ
+left_above keyed last cells = length (keys_above keyed cells last)

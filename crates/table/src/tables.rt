@@ -11,10 +11,11 @@ use crate::records::Record;
 fn holds<R: Record>(cell: &Option<R>, key: &R::Key) -> bool
     ensures { result ≡ has R.keyed key.now cell.now }
 {
-    cell.is_some_and(|record| record.key() == *key)
+    cell.as_ref().is_some_and(|record| record.key() == *key)
 }
 
 /// Records under their keys, in a lent slice of places.
+// No `impl Model`: with the list of places as its value, what the lent memory holds in the end did not prove.
 #[derive(Drop)]
 pub struct Table<'a, R> {
     pub cells: &'a mut [Option<R>],
