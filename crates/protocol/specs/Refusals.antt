@@ -21,18 +21,8 @@ condition_number conditions.OwnEntry = 31
 
 -- the number of the tally's own fault
 abbrev pub condition_inside : Condition → Option ℕ
-condition_inside conditions.Length = None
-condition_inside conditions.Edition = None
-condition_inside conditions.Kind = None
-condition_inside conditions.Parties = None
-condition_inside conditions.Holding = None
-condition_inside conditions.Clock = None
-condition_inside conditions.Counts = None
-condition_inside conditions.CountedLength = None
-condition_inside conditions.Numbers = None
-condition_inside conditions.ItemClock = None
 condition_inside (conditions.Tally fault) = Some fault
-condition_inside conditions.OwnEntry = None
+condition_inside _ = None
 
 abbrev pub refusal_number : Refusal → ℕ
 refusal_number refusals.Tier = 1

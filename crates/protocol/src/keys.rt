@@ -1,5 +1,6 @@
 //! Tokens and entries as records of the keyed table.
 ghost use Rattle.protocol.specs.Keys.{by_pair, by_entry};
+ghost use Rattle.table.specs.Keys.{by_tests};
 
 use crate::records::{Entry, Pair, Token};
 use table::records::Record;
@@ -9,20 +10,13 @@ impl<K: Copy> Record for Token<K> {
 
     ghost keyed = { by_pair };
 
+    ghost ordered = { λ a b. by_tests _ };
+
     fn key(&self) -> Pair {
         Pair {
             source: self.source,
             destination: self.destination,
         }
-    }
-
-    fn has(&self, key: &Pair) -> bool {
-        key.source == self.source && key.destination == self.destination
-    }
-
-    fn before(one: &Pair, other: &Pair) -> bool {
-        one.source < other.source
-            || one.source == other.source && one.destination < other.destination
     }
 }
 
@@ -31,15 +25,9 @@ impl<K: Copy> Record for Entry<K> {
 
     ghost keyed = { by_entry };
 
+    ghost ordered = { λ a b. by_tests _ };
+
     fn key(&self) -> u8 {
         self.number
-    }
-
-    fn has(&self, key: &u8) -> bool {
-        *key == self.number
-    }
-
-    fn before(one: &u8, other: &u8) -> bool {
-        *one < *other
     }
 }

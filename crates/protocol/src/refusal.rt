@@ -75,6 +75,7 @@ pub enum Refusal {
     Frame(FrameFault),
 }
 
+// Methods and no `From`: a number forgets the tally's own fault, and the place of a frame's.
 impl Condition {
     /// The number by which answers name the condition.
     pub fn number(&self) -> u8

@@ -1,58 +1,36 @@
 -- The first cell that passes a test.
-use Rattle.std.proofs.Common.{◌≡◌, ℕ, zero, suc, ◌+◌, ◌<◌, Bool, true, false, ◌⊎◌, List, [], ◌∷◌, length, get_or, IfSome, Some, None, Option, sym, refl, ap, ◌∙◌, inl, inr, ⊎_elim, arith}
-use Rattle.std.proofs.lemmas.Bool.{cases_Bool, cond-true, cond-false}
-use Rattle.table.specs.Cells.{from, first, FirstAt}
+use Rattle.std.proofs.Common.{◌≡◌, ℕ, suc, ◌+◌, Bool, true, false, cond, ◌⊎◌, List, ◌∷◌, length, nat_lt, Some, None, Option, sym, refl, ap, ◌∙◌, inl, inr, ⊎_elim, arith}
+use Rattle.std.specs.List.{position, position_or_len}
+use Rattle.std.specs.Option.{option_map}
+use Rattle.std.proofs.lemmas.Bool.{cases_Bool, ltb-true, ltb-false, lt-ltb, le-ltb}
+use Rattle.std.proofs.lemmas.Option.{none-some}
 
-pub none_some : {A : Type 0} (o : Option A) (a : A) → o ≡ None → o ≡ Some a → ⊥
-none_some o a x y = let z : ◌≡◌ {A = ℕ} 0 1 = cc in absurd (omega arith)
-
--- a search that answers the first place gives what the definition gives
-pub first_is : {C : Type 0} (test : C → Bool) (cells : List C) (r : Option ℕ) → FirstAt test cells r → r ≡ first test cells
-unfolding first
-first_is test [] None h = refl
-first_is test [] (Some i) h = absurd (omega arith)
-first_is test (c ∷ cs) None h = rw (h 0 c (omega arith)) (ap (from 1) (first_is test cs None (λ i d l. h (suc i) d (omega arith))))
-first_is test (c ∷ cs) (Some zero) h = rw (h.1 c)
-first_is test (c ∷ cs) (Some (suc i)) h =
-    let e : suc i ≡ 1 + i = omega arith in
-    rw (h.2 0 c (omega arith)) (ap Some e ∙ ap (from 1) (first_is test cs (Some i) (omega (arith, h.0), λ d. h.1 d, λ j d l. h.2 (suc j) d (omega arith))))
-
-pub first_at_within : {C : Type 0} (test : C → Bool) (cells : List C) (r : Option ℕ) → FirstAt test cells r → IfSome r (λ i. i < length cells)
-first_at_within test cells None h = tt
-first_at_within test cells (Some i) h = h.0
-
-from_some : (o : Option ℕ) (i : ℕ) → from 1 o ≡ Some i → (j : ℕ) × (o ≡ Some j) × (i ≡ suc j)
-from_some None i e = absurd (none_some None i refl e)
-from_some (Some j) i e = let h : 1 + j ≡ i = cc in (j, refl, omega arith)
-
-pub from_gone : (o : Option ℕ) → from 1 o ≡ None → o ≡ None
-from_gone None e = refl
-from_gone (Some j) e = let z : ◌≡◌ {A = ℕ} 0 1 = cc in absurd (omega arith)
+within : (i n : ℕ) → cond (nat_lt (1 + i) (suc n)) (Some (1 + i)) None ≡ option_map suc (cond (nat_lt i n) (Some i) None)
+within i n = ⊎_elim
+    (λ (t : nat_lt i n ≡ true). let e : 1 + i ≡ suc i = omega arith in rw (t, lt-ltb (1 + i) (suc n) (omega (arith, ltb-true i n t))) (ap Some e))
+    (λ (f : nat_lt i n ≡ false). rw (f, le-ltb (1 + i) (suc n) (omega (arith, ltb-false i n f))))
+    (cases_Bool (nat_lt i n))
 
 -- the first cell that passes is the head, or stands further on
-pub first_cases : {C : Type 0} (test : C → Bool) (c : C) (cs : List C) (i : ℕ) → first test (c ∷ cs) ≡ Some i → ((test c ≡ true) × (i ≡ 0)) ⊎ ((test c ≡ false) × ((j : ℕ) × (first test cs ≡ Some j) × (i ≡ suc j)))
-unfolding first
-first_cases test c cs i e = ⊎_elim
-    (λ (t : test c ≡ true). let h : Some 0 ≡ Some i = sym (cond-true (test c) (Some 0) (from 1 (first test cs)) t) ∙ e in inl (t, cc))
-    (λ (f : test c ≡ false). inr (f, from_some (first test cs) i (sym (cond-false (test c) (Some 0) (from 1 (first test cs)) f) ∙ e)))
+pub position_cons : {C : Type 0} (test : C → Bool) (c : C) (cs : List C) → position test (c ∷ cs) ≡ cond (test c) (Some 0) (option_map suc (position test cs))
+position_cons test c cs = ⊎_elim
+    (λ (t : test c ≡ true). rw (t, lt-ltb 0 (suc (length cs)) (omega arith)))
+    (λ (f : test c ≡ false). rw f (within (position_or_len test cs) (length cs)))
     (cases_Bool (test c))
 
-pub first_nil : {C : Type 0} (test : C → Bool) → first test [] ≡ None
-unfolding first
-first_nil test = refl
+pub first_cases : {C : Type 0} (test : C → Bool) (c : C) (cs : List C) (i : ℕ) → position test (c ∷ cs) ≡ Some i → ((test c ≡ true) × (i ≡ 0)) ⊎ ((test c ≡ false) × ((j : ℕ) × (position test cs ≡ Some j) × (i ≡ suc j)))
+first_cases test c cs i e = by (test c) (position test cs) (sym (position_cons test c cs) ∙ e)
+  where
+    by : (b : Bool) (o : Option ℕ) → cond b (Some 0) (option_map suc o) ≡ Some i → ((b ≡ true) × (i ≡ 0)) ⊎ ((b ≡ false) × ((j : ℕ) × (o ≡ Some j) × (i ≡ suc j)))
+    by true o h = let z : 0 ≡ i = cc in inl (refl, sym z)
+    by false None h = absurd (none-some i h)
+    by false (Some j) h = let z : suc j ≡ i = cc in inr (refl, (j, refl, sym z))
 
--- the place lies within the cells
-pub first_within : {C : Type 0} (test : C → Bool) (cells : List C) (i : ℕ) → first test cells ≡ Some i → i < length cells
-first_within test [] i e = absurd (none_some (first test []) i (first_nil test) e)
-first_within test (c ∷ cs) i e = ⊎_elim
-    (λ (h : (test c ≡ true) × (i ≡ 0)). omega arith)
-    (λ (h : (test c ≡ false) × ((j : ℕ) × (first test cs ≡ Some j) × (i ≡ suc j))). let l = first_within test cs h.1.0 h.1.1 in omega (arith, h.1.2))
-    (first_cases test c cs i e)
-
--- its cell passes the test
-pub first_passes : {C : Type 0} (test : C → Bool) (cells : List C) (i : ℕ) (d : C) → first test cells ≡ Some i → test (get_or cells i d) ≡ true
-first_passes test [] i d e = absurd (none_some (first test []) i (first_nil test) e)
-first_passes test (c ∷ cs) i d e = ⊎_elim
-    (λ (h : (test c ≡ true) × (i ≡ 0)). rw h.1 h.0)
-    (λ (h : (test c ≡ false) × ((j : ℕ) × (first test cs ≡ Some j) × (i ≡ suc j))). rw h.1.2 (first_passes test cs h.1.0 d h.1.1))
-    (first_cases test c cs i e)
+-- where none passes, the head does not, and none further on
+pub first_gone : {C : Type 0} (test : C → Bool) (c : C) (cs : List C) → position test (c ∷ cs) ≡ None → (test c ≡ false) × (position test cs ≡ None)
+first_gone test c cs e = by (test c) (position test cs) (sym (position_cons test c cs) ∙ e)
+  where
+    by : (b : Bool) (o : Option ℕ) → cond b (Some 0) (option_map suc o) ≡ None → (b ≡ false) × (o ≡ None)
+    by true o h = absurd (none-some 0 (sym h))
+    by false None h = (refl, refl)
+    by false (Some j) h = absurd (none-some (suc j) (sym h))

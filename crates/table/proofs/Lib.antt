@@ -1,5 +1,6 @@
-pub mod First
-pub mod Rows
+pub mod Chains
 pub mod Counts
+pub mod First
 pub mod Order
 pub mod Parts
+pub mod Rows

@@ -1,33 +1,21 @@
 -- Laws of rows of cells: what stands under each key after a change, and that keys stay apart.
-use Rattle.std.proofs.Common.{◌≡◌, ℕ, zero, suc, ◌+◌, ◌<◌, Bool, true, false, cond, ◌⊎◌, List, [], ◌∷◌, map, length, get_or, set, replicate, Some, None, Option, sym, refl, ap, ◌∙◌, subst, ap₂, inl, inr, ⊎_elim, arith, MatchOption}
-use Rattle.std.specs.Option.{option_or}
-use Rattle.std.proofs.lemmas.List.{get_or-set_same, get_or-set_other}
-use Rattle.std.proofs.lemmas.Bool.{cases_Bool, cases_eq, false≢true}
-use Rattle.table.specs.Cells.{Keyed, under, from, has, bare, first, place_of, first_free, sought, FreeBefore, Apart, Each, keep}
+use Rattle.std.proofs.Common.{◌≡◌, ℕ, zero, suc, Bool, true, false, ◌⊎◌, List, [], ◌∷◌, map, get_or, set, replicate, Some, None, Option, sym, refl, ap, ◌∙◌, subst, inl, inr, ⊎_elim, arith, MatchOption}
+use Rattle.std.specs.List.{position}
+use Rattle.std.specs.Option.{is_none}
+use Rattle.std.proofs.lemmas.Option.{none-some}
+use Rattle.std.proofs.lemmas.List.Quantifiers.{position-Some}
+use Rattle.std.proofs.lemmas.Bool.{cases_Bool, false≢true}
+use Rattle.table.specs.Cells.{Keyed, under, has, place_of, first_free, Apart, Each, keep}
 use Rattle.table.specs.Changes.{Free, Takes, Written, Emptied, Blank, write}
-use Rattle.table.proofs.First.{none_some, from_gone, first_cases, first_nil, first_within, first_passes}
+use Rattle.table.proofs.First.{first_cases, first_gone}
 
 -- the first free place is free
 pub free_is : {R : Type 0} (cells : List (Option R)) (i : ℕ) → first_free cells ≡ Some i → Free cells i
-free_is cells i e = (first_within bare cells i e, bare_none (get_or cells i None) (first_passes bare cells i None e))
+free_is cells i e = let h = position-Some is_none cells i None e in (h.0, emptied (get_or cells i None) h.1)
   where
-    bare_none : {R : Type 0} (c : Option R) → bare c ≡ true → c ≡ None
-    bare_none None h = refl
-    bare_none (Some r) h = absurd (false≢true h)
-
--- cells that are all free
-pub all_free : {R : Type 0} (cells : List (Option R)) (n : ℕ) → length cells ≡ n → FreeBefore cells n → cells ≡ replicate n None
-all_free [] zero l h = refl
-all_free [] (suc n) l h = absurd (omega arith)
-all_free (c ∷ cs) zero l h = absurd (omega arith)
-all_free (c ∷ cs) (suc n) l h = ap₂ ◌∷◌ (h 0 c (omega arith)) (all_free cs n (omega arith) (λ i d t. h (suc i) d (omega arith)))
-
--- one more cell emptied
-pub free_before_more : {R : Type 0} (cells : List (Option R)) (n : ℕ) → n < length cells → FreeBefore cells n → FreeBefore (set cells n None) (n + 1)
-free_before_more cells n l h i d t = ⊎_elim
-    (λ (e : i ≡ n). rw e (get_or-set_same cells n None d l))
-    (λ (e : i ≡ n → ⊥). get_or-set_other cells n i None d e ∙ h i d (omega arith))
-    (cases_eq i n)
+    emptied : {R : Type 0} (c : Option R) → is_none c ≡ true → c ≡ None
+    emptied None h = refl
+    emptied (Some r) h = absurd (false≢true h)
 
 module _ {R Key : Type 0} (keyed : Keyed R Key) where
   pub alike_same : (k : Key) → keyed.alike k k ≡ true
@@ -66,13 +54,10 @@ module _ {R Key : Type 0} (keyed : Keyed R Key) where
 
   -- a key without a place has no record, and one with a place has one
   pub place_none : (cells : List (Option R)) (k : Key) → None ≡ place_of keyed cells k → under keyed cells k ≡ None
-  unfolding under first
+  unfolding under
   place_none [] k e = refl
-  place_none (None ∷ cs) k e = place_none cs k (sym (from_gone (first (has keyed k) cs) (sym e)))
-  place_none (Some r ∷ cs) k e = ⊎_elim
-      (λ (t : keyed.alike k (keyed.key r) ≡ true). absurd (none_some (cond (keyed.alike k (keyed.key r)) (Some 0) (from 1 (first (has keyed k) cs))) 0 (sym e) (rw t)))
-      (λ (f : keyed.alike k (keyed.key r) ≡ false). rw f (place_none cs k (sym (from_gone (first (has keyed k) cs) (sym (rw f at e))))))
-      (cases_Bool (keyed.alike k (keyed.key r)))
+  place_none (None ∷ cs) k e = place_none cs k (sym (first_gone (has keyed k) None cs (sym e)).1)
+  place_none (Some r ∷ cs) k e = let h = first_gone (has keyed k) (Some r) cs (sym e) in rw h.0 (place_none cs k (sym h.1))
 
   over_head : (c : Option R) (cs : List (Option R)) (r : R) → has keyed (keyed.key r) c ≡ true → (q : Key) → under keyed (Some r ∷ cs) q ≡ write keyed (under keyed (c ∷ cs)) (keyed.key r) (Some r) q
   over_head None cs r h q = absurd (false≢true h)
@@ -91,28 +76,28 @@ module _ {R Key : Type 0} (keyed : Keyed R Key) where
       (cases_key q k)
 
   pub place_some : (cells : List (Option R)) (k : Key) (i : ℕ) → place_of keyed cells k ≡ Some i → (r : R) × (under keyed cells k ≡ Some r)
-  place_some [] k i e = absurd (none_some (first (has keyed k) []) i (first_nil (has keyed k)) e)
+  place_some [] k i e = absurd (none-some i e)
   place_some (None ∷ cs) k i e = ⊎_elim
       (λ (h : (false ≡ true) × (i ≡ 0)). absurd (false≢true h.0))
-      (λ (h : (false ≡ false) × ((j : ℕ) × (first (has keyed k) cs ≡ Some j) × (i ≡ suc j))). let r = place_some cs k h.1.0 h.1.1 in (r.0, under_past None cs k refl ∙ r.1))
+      (λ (h : (false ≡ false) × ((j : ℕ) × (position (has keyed k) cs ≡ Some j) × (i ≡ suc j))). let r = place_some cs k h.1.0 h.1.1 in (r.0, under_past None cs k refl ∙ r.1))
       (first_cases (has keyed k) None cs i e)
   place_some (Some x ∷ cs) k i e = ⊎_elim
       (λ (h : (has keyed k (Some x) ≡ true) × (i ≡ 0)). (x, under_here x cs k h.0))
-      (λ (h : (has keyed k (Some x) ≡ false) × ((j : ℕ) × (first (has keyed k) cs ≡ Some j) × (i ≡ suc j))). let r = place_some cs k h.1.0 h.1.1 in (r.0, under_past (Some x) cs k h.0 ∙ r.1))
+      (λ (h : (has keyed k (Some x) ≡ false) × ((j : ℕ) × (position (has keyed k) cs ≡ Some j) × (i ≡ suc j))). let r = place_some cs k h.1.0 h.1.1 in (r.0, under_past (Some x) cs k h.0 ∙ r.1))
       (first_cases (has keyed k) (Some x) cs i e)
 
   -- a record over the first cell with its key
   pub write_over : (cells : List (Option R)) (i : ℕ) (r : R) → place_of keyed cells (keyed.key r) ≡ Some i → (q : Key) → under keyed (set cells i (Some r)) q ≡ write keyed (under keyed cells) (keyed.key r) (Some r) q
-  write_over [] i r e q = absurd (none_some (first (has keyed (keyed.key r)) []) i (first_nil (has keyed (keyed.key r))) e)
+  write_over [] i r e q = absurd (none-some i e)
   write_over (c ∷ cs) i r e q = ⊎_elim
       (λ (h : (has keyed (keyed.key r) c ≡ true) × (i ≡ 0)). rw h.1 (over_head c cs r h.0 q))
-      (λ (h : (has keyed (keyed.key r) c ≡ false) × ((j : ℕ) × (first (has keyed (keyed.key r)) cs ≡ Some j) × (i ≡ suc j))). rw h.1.2 (past_head c cs (set cs h.1.0 (Some r)) (keyed.key r) (Some r) h.0 (write_over cs h.1.0 r h.1.1) q))
+      (λ (h : (has keyed (keyed.key r) c ≡ false) × ((j : ℕ) × (position (has keyed (keyed.key r)) cs ≡ Some j) × (i ≡ suc j))). rw h.1.2 (past_head c cs (set cs h.1.0 (Some r)) (keyed.key r) (Some r) h.0 (write_over cs h.1.0 r h.1.1) q))
       (first_cases (has keyed (keyed.key r)) c cs i e)
 
   pub other_key : (x : R) (cs : List (Option R)) (k : Key) → under keyed (Some x ∷ cs) k ≡ None → (keyed.alike k (keyed.key x) ≡ false) × (under keyed cs k ≡ None)
   unfolding under
   other_key x cs k n = ⊎_elim
-      (λ (t : keyed.alike k (keyed.key x) ≡ true). absurd (none_some (cond (keyed.alike k (keyed.key x)) (Some x) (under keyed cs k)) x n (rw t)))
+      (λ (t : keyed.alike k (keyed.key x) ≡ true). absurd (none-some x (sym n ∙ rw t)))
       (λ (f : keyed.alike k (keyed.key x) ≡ false). (f, rw f at n))
       (cases_Bool (keyed.alike k (keyed.key x)))
 
@@ -128,7 +113,7 @@ module _ {R Key : Type 0} (keyed : Keyed R Key) where
   unfolding under write
   write_free [] i r h n q = absurd (omega arith)
   write_free (None ∷ cs) zero r h n q = refl
-  write_free (Some x ∷ cs) zero r h n q = absurd (none_some (Some x) x h.1 refl)
+  write_free (Some x ∷ cs) zero r h n q = absurd (none-some x (sym h.1))
   write_free (None ∷ cs) (suc i) r h n q = write_free cs i r (omega (arith, h.0), h.1) n q
   write_free (Some x ∷ cs) (suc i) r h n q =
       let f = other_key x cs (keyed.key r) n in
@@ -136,19 +121,19 @@ module _ {R Key : Type 0} (keyed : Keyed R Key) where
 
   -- the first cell with a key emptied, where keys are apart
   pub write_none : (cells : List (Option R)) (i : ℕ) (k : Key) → Apart keyed cells → place_of keyed cells k ≡ Some i → (q : Key) → under keyed (set cells i None) q ≡ write keyed (under keyed cells) k None q
-  write_none [] i k a e q = absurd (none_some (first (has keyed k) []) i (first_nil (has keyed k)) e)
+  write_none [] i k a e q = absurd (none-some i e)
   write_none (None ∷ cs) i k a e q = ⊎_elim
       (λ (h : (false ≡ true) × (i ≡ 0)). absurd (false≢true h.0))
-      (λ (h : (false ≡ false) × ((j : ℕ) × (first (has keyed k) cs ≡ Some j) × (i ≡ suc j))). rw h.1.2 (past_head None cs (set cs h.1.0 None) k None refl (write_none cs h.1.0 k a h.1.1) q))
+      (λ (h : (false ≡ false) × ((j : ℕ) × (position (has keyed k) cs ≡ Some j) × (i ≡ suc j))). rw h.1.2 (past_head None cs (set cs h.1.0 None) k None refl (write_none cs h.1.0 k a h.1.1) q))
       (first_cases (has keyed k) None cs i e)
   write_none (Some x ∷ cs) i k a e q = ⊎_elim
       (λ (h : (has keyed k (Some x) ≡ true) × (i ≡ 0)). rw h.1 (none_head x cs k (alike_is k (keyed.key x) h.0) a.0 q))
-      (λ (h : (has keyed k (Some x) ≡ false) × ((j : ℕ) × (first (has keyed k) cs ≡ Some j) × (i ≡ suc j))). rw h.1.2 (past_head (Some x) cs (set cs h.1.0 None) k None h.0 (write_none cs h.1.0 k a.1 h.1.1) q))
+      (λ (h : (has keyed k (Some x) ≡ false) × ((j : ℕ) × (position (has keyed k) cs ≡ Some j) × (i ≡ suc j))). rw h.1.2 (past_head (Some x) cs (set cs h.1.0 None) k None h.0 (write_none cs h.1.0 k a.1 h.1.1) q))
       (first_cases (has keyed k) (Some x) cs i e)
 
   pub under_key : (cells : List (Option R)) (k : Key) (r : R) → under keyed cells k ≡ Some r → keyed.key r ≡ k
   unfolding under
-  under_key [] k r e = absurd (none_some None r refl e)
+  under_key [] k r e = absurd (none-some r e)
   under_key (None ∷ cs) k r e = under_key cs k r e
   under_key (Some x ∷ cs) k r e = ⊎_elim
       (λ (t : keyed.alike k (keyed.key x) ≡ true). let h : Some x ≡ Some r = rw t at e in let f : x ≡ r = cc in sym (alike_is k (keyed.key x) t ∙ ap keyed.key f))
@@ -218,7 +203,7 @@ module _ {R Key : Type 0} (keyed : Keyed R Key) where
   unfolding under
   apart_free [] i r h n a = absurd (omega arith)
   apart_free (None ∷ cs) zero r h n a = (n, a)
-  apart_free (Some x ∷ cs) zero r h n a = absurd (none_some (Some x) x h.1 refl)
+  apart_free (Some x ∷ cs) zero r h n a = absurd (none-some x (sym h.1))
   apart_free (None ∷ cs) (suc i) r h n a = apart_free cs i r (omega (arith, h.0), h.1) n a
   apart_free (Some x ∷ cs) (suc i) r h n a =
       let f = other_key x cs (keyed.key r) n in
@@ -228,10 +213,10 @@ module _ {R Key : Type 0} (keyed : Keyed R Key) where
 
   -- what the place of a key holds
   pub place_at : (cells : List (Option R)) (k : Key) (i : ℕ) (d : Option R) → place_of keyed cells k ≡ Some i → get_or cells i d ≡ under keyed cells k
-  place_at [] k i d e = absurd (none_some (first (has keyed k) []) i (first_nil (has keyed k)) e)
+  place_at [] k i d e = absurd (none-some i e)
   place_at (c ∷ cs) k i d e = ⊎_elim
       (λ (h : (has keyed k c ≡ true) × (i ≡ 0)). rw h.1 (at_head c cs k h.0))
-      (λ (h : (has keyed k c ≡ false) × ((j : ℕ) × (first (has keyed k) cs ≡ Some j) × (i ≡ suc j))). rw h.1.2 (place_at cs k h.1.0 d h.1.1 ∙ sym (under_past c cs k h.0)))
+      (λ (h : (has keyed k c ≡ false) × ((j : ℕ) × (position (has keyed k) cs ≡ Some j) × (i ≡ suc j))). rw h.1.2 (place_at cs k h.1.0 d h.1.1 ∙ sym (under_past c cs k h.0)))
       (first_cases (has keyed k) c cs i e)
     where
       at_head : (c : Option R) (cs : List (Option R)) (k : Key) → has keyed k c ≡ true → c ≡ under keyed (c ∷ cs) k
@@ -239,14 +224,14 @@ module _ {R Key : Type 0} (keyed : Keyed R Key) where
       at_head (Some x) cs k h = sym (under_here x cs k h)
 
   pub apart_over : (cells : List (Option R)) (i : ℕ) (r : R) → place_of keyed cells (keyed.key r) ≡ Some i → Apart keyed cells → Apart keyed (set cells i (Some r))
-  apart_over [] i r e a = absurd (none_some (first (has keyed (keyed.key r)) []) i (first_nil (has keyed (keyed.key r))) e)
+  apart_over [] i r e a = absurd (none-some i e)
   apart_over (None ∷ cs) i r e a = ⊎_elim
       (λ (h : (false ≡ true) × (i ≡ 0)). absurd (false≢true h.0))
-      (λ (h : (false ≡ false) × ((j : ℕ) × (first (has keyed (keyed.key r)) cs ≡ Some j) × (i ≡ suc j))). rw h.1.2 (apart_over cs h.1.0 r h.1.1 a))
+      (λ (h : (false ≡ false) × ((j : ℕ) × (position (has keyed (keyed.key r)) cs ≡ Some j) × (i ≡ suc j))). rw h.1.2 (apart_over cs h.1.0 r h.1.1 a))
       (first_cases (has keyed (keyed.key r)) None cs i e)
   apart_over (Some x ∷ cs) i r e a = ⊎_elim
       (λ (h : (has keyed (keyed.key r) (Some x) ≡ true) × (i ≡ 0)). rw h.1 (ap (under keyed cs) (alike_is (keyed.key r) (keyed.key x) h.0) ∙ a.0, a.1))
-      (λ (h : (has keyed (keyed.key r) (Some x) ≡ false) × ((j : ℕ) × (first (has keyed (keyed.key r)) cs ≡ Some j) × (i ≡ suc j))).
+      (λ (h : (has keyed (keyed.key r) (Some x) ≡ false) × ((j : ℕ) × (position (has keyed (keyed.key r)) cs ≡ Some j) × (i ≡ suc j))).
       let d : keyed.alike (keyed.key x) (keyed.key r) ≡ false = alike_off (keyed.key x) (keyed.key r) (λ s. false≢true (sym h.0 ∙ (keyed.decides (keyed.key r) (keyed.key x)).1 (sym s))) in
       rw h.1.2 (write_over cs h.1.0 r h.1.1 (keyed.key x) ∙ write_off (under keyed cs) (keyed.key r) (Some r) (keyed.key x) d ∙ a.0, apart_over cs h.1.0 r h.1.1 a.1))
       (first_cases (has keyed (keyed.key r)) (Some x) cs i e)
@@ -292,22 +277,10 @@ module _ {R Key : Type 0} (keyed : Keyed R Key) where
   pub emptied : (cells : List (Option R)) (i : ℕ) → Emptied keyed cells (set cells i None) i
   emptied cells i k a e = written_by cells (set cells i None) k None (write_none cells i k a e) (apart_none cells i)
 
-  -- what a search for the key's place or a free one gives
-  pub sought_takes : (cells : List (Option R)) (k : Key) (i : ℕ) → sought keyed cells k ≡ Some i → Takes keyed cells k i
-  sought_takes cells k i = by (place_of keyed cells k) refl
-    where
-      by : (found : Option ℕ) → place_of keyed cells k ≡ found → option_or found (first_free cells) ≡ Some i → Takes keyed cells k i
-      by None e s = inr (place_none cells k (sym e), free_is cells i s)
-      by (Some j) e s = inl (e ∙ s)
-
-  -- and where it gives none, there is neither
-  pub sought_cases : (cells : List (Option R)) (k : Key) (r : Option ℕ) → r ≡ sought keyed cells k → MatchOption r ((place_of keyed cells k ≡ None) × (first_free cells ≡ None)) (Takes keyed cells k)
-  sought_cases cells k (Some i) e = sought_takes cells k i (sym e)
-  sought_cases cells k None e = by (place_of keyed cells k) refl (sym e)
-    where
-      by : (found : Option ℕ) → place_of keyed cells k ≡ found → option_or found (first_free cells) ≡ None → (place_of keyed cells k ≡ None) × (first_free cells ≡ None)
-      by None p s = (p, s)
-      by (Some j) p s = absurd (none_some (Some j) j s refl)
+  -- where the key has no place, a free one takes it
+  pub free_takes : (cells : List (Option R)) (k : Key) (r : Option ℕ) → None ≡ place_of keyed cells k → r ≡ first_free cells → MatchOption r ((place_of keyed cells k ≡ None) × (first_free cells ≡ None)) (Takes keyed cells k)
+  free_takes cells k None p e = (sym p, sym e)
+  free_takes cells k (Some i) p e = inr (place_none cells k p, free_is cells i (sym e))
 
   -- nothing stands in cleared cells
   pub blank : (n : ℕ) → Blank keyed (replicate n None)

@@ -1,6 +1,9 @@
 -- What a row of cells holds, as a table by key.
-use Rattle.std.specs.Prelude.{◌≡◌, ℕ, ◌+◌, ◌<◌, Bool, true, false, cond, List, [], ◌∷◌, length, Some, None, Decides, Option, slice_index_or}
-use Rattle.std.specs.Option.{option_or}
+use Rattle.std.specs.Prelude.{◌≡◌, ℕ, ◌<◌, Bool, true, false, cond, List, [], ◌∷◌, length, Some, None, Decides, IfSome, Option}
+use Rattle.std.specs.List.{position}
+use Rattle.std.specs.Option.{option_or, is_none}
+use Rattle.std.specs.declared.cmp.Ordering.{Ordering}
+use Rattle.std.specs.declared.cmp.Ordering.TheVariants.{Less, Equal, Greater}
 
 -- records with a key: which key, whether two keys are one, and the order of keys
 pub record Keyed (R Key : Type 0) : Type 0 where
@@ -13,15 +16,14 @@ pub record Keyed (R Key : Type 0) : Type 0 where
   -- of two keys one is before the other, or they are one
   pub connected : (a b : Key) → before a b ≡ false → before b a ≡ false → a ≡ b
 
+-- how two keys compare
+abbrev pub compared : {R Key : Type 0} → Keyed R Key → Key → Key → Ordering
+compared keyed a b = cond (keyed.before a b) Less (cond (keyed.alike a b) Equal Greater)
+
 -- a cell holds a record with this key
 abbrev pub has : {R Key : Type 0} → Keyed R Key → Key → Option R → Bool
 has keyed k None = false
 has keyed k (Some r) = keyed.alike k (keyed.key r)
-
--- a cell is free
-abbrev pub bare : {R : Type 0} → Option R → Bool
-bare None = true
-bare (Some r) = false
 
 abbrev pub held_by : {R Key : Type 0} → Keyed R Key → Option R → (Key → Option R) → Key → Option R
 held_by keyed None rest k = rest k
@@ -32,40 +34,21 @@ unfoldable pub under : {R Key : Type 0} → Keyed R Key → List (Option R) → 
 under keyed [] k = None
 under keyed (c ∷ cs) k = held_by keyed c (under keyed cs) k
 
--- a place counted from n on
-abbrev pub from : ℕ → Option ℕ → Option ℕ
-from n None = None
-from n (Some i) = Some (n + i)
-
--- the place of the first cell that passes a test
-unfoldable pub first : {C : Type 0} → (C → Bool) → List C → Option ℕ
-first test [] = None
-first test (c ∷ cs) = cond (test c) (Some 0) (from 1 (first test cs))
-
 -- the place of a key
 abbrev pub place_of : {R Key : Type 0} → Keyed R Key → List (Option R) → Key → Option ℕ
-place_of keyed cells k = first (has keyed k) cells
+place_of keyed cells k = position (has keyed k) cells
 
 -- the first free place
 abbrev pub first_free : {R : Type 0} → List (Option R) → Option ℕ
-first_free cells = first bare cells
+first_free cells = position is_none cells
 
 -- the key's place, else the first free one
 abbrev pub sought : {R Key : Type 0} → Keyed R Key → List (Option R) → Key → Option ℕ
 sought keyed cells k = option_or (place_of keyed cells k) (first_free cells)
 
--- no cell before a place passes a test
-abbrev pub NoneBefore : {C : Type 0} → (C → Bool) → List C → ℕ → Type 0
-NoneBefore {C} test cells n = (i : ℕ) (c : C) → i < n → test (slice_index_or cells i c) ≡ false
-
--- the place of the first cell that passes a test, said of each place
-abbrev pub FirstAt : {C : Type 0} → (C → Bool) → List C → Option ℕ → Type 0
-FirstAt test cells None = NoneBefore test cells (length cells)
-FirstAt {C} test cells (Some i) = (i < length cells) × ((c : C) → test (slice_index_or cells i c) ≡ true) × NoneBefore test cells i
-
--- every cell before a place is free
-abbrev pub FreeBefore : {R : Type 0} → List (Option R) → ℕ → Type 0
-FreeBefore {R} cells n = (i : ℕ) (c : Option R) → i < n → slice_index_or cells i c ≡ None
+-- a place, if there is one, is among the cells
+abbrev pub Within : {X : Type 0} → List X → Option ℕ → Type 0
+Within cells place = IfSome place (λ i. i < length cells)
 
 -- each key stands in one cell at most
 abbrev pub Apart : {R Key : Type 0} → Keyed R Key → List (Option R) → Type 0

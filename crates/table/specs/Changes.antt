@@ -1,5 +1,6 @@
 -- What storing a record, and emptying a place, change in a table.
 use Rattle.std.specs.Prelude.{◌≡◌, ℕ, ◌<◌, cond, ◌⊎◌, List, length, Some, None, Option, ◌≢◌, slice_index_or}
+use Rattle.std.specs.Borrow.{MutBor}
 use Rattle.table.specs.Cells.{Keyed, under, place_of, Apart}
 
 -- a place is there, and free
@@ -24,6 +25,11 @@ Emptied {R} {Key} keyed old new i = (k : Key) → Apart keyed old → place_of k
 pub record Blank {R Key : Type 0} (keyed : Keyed R Key) (cells : List (Option R)) : Type 0 where
   pub none : (k : Key) → under keyed cells k ≡ None
   pub apart : Apart keyed cells
+
+-- a lent memory is the same one, and as long
+pub record Kept {X : Type 0} (old new : MutBor (List X)) : Type 0 where
+  pub long : length new.now ≡ length old.now
+  pub same : new.ghost_name ≡ old.ghost_name
 
 -- a table with one key written
 unfoldable pub write : {R Key A : Type 0} → Keyed R Key → (Key → A) → Key → A → Key → A

@@ -1,26 +1,16 @@
 -- How many cells are used, and how many keys.
-use Rattle.std.specs.Prelude.{◌≡◌, ℕ, ◌+◌, Bool, true, List, [], ◌∷◌, Some, None, Option, ◌≢◌}
+use Rattle.std.specs.Prelude.{◌≡◌, ℕ, ◌+◌, Bool, true, List, Option, ◌≢◌}
+use Rattle.std.specs.List.{count_by}
+use Rattle.std.specs.Option.{is_none, is_some, option_len}
 use Rattle.table.specs.Cells.{Keyed, under, Apart, Each}
 
--- one for a record, 0 for none
-abbrev pub used : {A : Type 0} → Option A → ℕ
-used None = 0
-used (Some a) = 1
-
--- one for a free cell
-abbrev pub spare : {A : Type 0} → Option A → ℕ
-spare None = 1
-spare (Some a) = 0
-
 -- how many cells hold a record
-unfoldable pub filled : {R : Type 0} → List (Option R) → ℕ
-filled [] = 0
-filled (c ∷ cs) = used c + filled cs
+abbrev pub filled : {R : Type 0} → List (Option R) → ℕ
+filled cells = count_by is_some cells
 
 -- how many cells are free
-unfoldable pub free_in : {R : Type 0} → List (Option R) → ℕ
-free_in [] = 0
-free_in (c ∷ cs) = spare c + free_in cs
+abbrev pub free_in : {R : Type 0} → List (Option R) → ℕ
+free_in cells = count_by is_none cells
 
 -- a sum of a number for each key of a domain: of zeros it is 0, and it changes as the number of one key does
 pub record Summing {Key : Type 0} (In : Key → Type 0) (sum : (Key → ℕ) → ℕ) : Type 0 where
@@ -29,4 +19,4 @@ pub record Summing {Key : Type 0} (In : Key → Type 0) (sum : (Key → ℕ) →
 
 -- so many keys have a record, in whatever way keys are summed, where keys are apart
 abbrev pub UsedKeys : {R Key : Type 0} → Keyed R Key → List (Option R) → ℕ → Type 0
-UsedKeys {R} {Key} keyed cells n = (domain : Key → Bool) (sum : (Key → ℕ) → ℕ) → Summing (λ k. domain k ≡ true) sum → Each (λ r. domain (keyed.key r) ≡ true) cells → Apart keyed cells → sum (λ k. used (under keyed cells k)) ≡ n
+UsedKeys {R} {Key} keyed cells n = (domain : Key → Bool) (sum : (Key → ℕ) → ℕ) → Summing (λ k. domain k ≡ true) sum → Each (λ r. domain (keyed.key r) ≡ true) cells → Apart keyed cells → sum (λ k. option_len (under keyed cells k)) ≡ n

@@ -1,29 +1,30 @@
 -- The least key above a given one.
-use Rattle.std.specs.Prelude.{◌≡◌, ℕ, ◌+◌, Bool, true, cond, ◌&&◌, List, [], ◌∷◌, Some, None, Option, slice_index_or}
-use Rattle.table.specs.Cells.{Keyed, under, place_of}
+use Rattle.std.specs.Prelude.{◌≡◌, ℕ, Bool, true, List, map, length, Some, None, Option, slice_index_or}
+use Rattle.std.specs.List.{filter, flat_map, reduce}
+use Rattle.std.specs.Option.{option_to_list}
+use Rattle.std.specs.Ordering.{min_by_ordering}
+use Rattle.table.specs.Cells.{Keyed, compared, under, place_of}
 
 -- a key is above the last one; where there is none, every key is
 abbrev pub above : {R Key : Type 0} → Keyed R Key → Option Key → Key → Bool
 above keyed None k = true
 above keyed (Some last) k = keyed.before last k
 
--- a key is below the best one so far; where there is none, every key is
-abbrev pub below : {R Key : Type 0} → Keyed R Key → Option Key → Key → Bool
-below keyed None k = true
-below keyed (Some best) k = keyed.before k best
+-- the keys of the records
+abbrev pub keys : {R Key : Type 0} → Keyed R Key → List (Option R) → List Key
+keys keyed cells = map keyed.key (flat_map option_to_list cells)
 
--- the best key so far, or that of a cell, if it is above the last one and nearer to it
-abbrev pub nearer : {R Key : Type 0} → Keyed R Key → Option Key → Option Key → Option R → Option Key
-nearer keyed last best None = best
-nearer keyed last best (Some r) = cond (above keyed last (keyed.key r) && below keyed best (keyed.key r)) (Some (keyed.key r)) best
+-- those above the last one
+abbrev pub keys_above : {R Key : Type 0} → Keyed R Key → List (Option R) → Option Key → List Key
+keys_above keyed cells last = filter (above keyed last) (keys keyed cells)
 
-unfoldable pub nearest : {R Key : Type 0} → Keyed R Key → Option Key → Option Key → List (Option R) → Option Key
-nearest keyed last best [] = best
-nearest keyed last best (c ∷ cs) = nearest keyed last (nearer keyed last best c) cs
+-- of two keys the lesser
+abbrev pub lesser : {R Key : Type 0} → Keyed R Key → Key → Key → Key
+lesser keyed a b = min_by_ordering (compared keyed a b) a b
 
 -- the least key above the last one
 abbrev pub least_above : {R Key : Type 0} → Keyed R Key → List (Option R) → Option Key → Option Key
-least_above keyed cells last = nearest keyed last None cells
+least_above keyed cells last = reduce (lesser keyed) (keys_above keyed cells last)
 
 -- the record at a place has the least key above the last one
 pub record HasNext {R Key : Type 0} (keyed : Keyed R Key) (cells : List (Option R)) (last : Option Key) (i : ℕ) : Type 0 where
@@ -40,7 +41,5 @@ NextAbove {R} {Key} keyed cells last None = (k : Key) → above keyed last k ≡
 NextAbove keyed cells last (Some i) = HasNext keyed cells last i
 
 -- how many records have a key above the last one
-unfoldable pub left_above : {R Key : Type 0} → Keyed R Key → Option Key → List (Option R) → ℕ
-left_above keyed last [] = 0
-left_above keyed last (None ∷ cs) = left_above keyed last cs
-left_above keyed last (Some r ∷ cs) = cond (above keyed last (keyed.key r)) 1 0 + left_above keyed last cs
+abbrev pub left_above : {R Key : Type 0} → Keyed R Key → Option Key → List (Option R) → ℕ
+left_above keyed last cells = length (keys_above keyed cells last)

@@ -1,8 +1,8 @@
 //! Tables over a part of a larger memory.
 ghost use Rattle.std.specs.Prelude.{◌≡◌, ◌+◌, ◌≤◌, length, replicate, None};
+ghost use Rattle.table.specs.Changes.{Kept};
 ghost use Rattle.table.specs.Parts.{PartBecame};
 
-use crate::cell::empty_all;
 use crate::records::Record;
 use crate::tables::Table;
 
@@ -10,8 +10,7 @@ use crate::tables::Table;
 pub fn clear_in<R: Record>(table: &mut Table<'_, R>, start: usize, count: usize)
     requires { start + count ≤ length table.old.cells.now }
     ensures cells { PartBecame start count table.old.cells.now table.new.cells.now (replicate count None) }
-    ensures long { length table.new.cells.now ≡ length table.old.cells.now }
-    ensures same { table.new.cells.ghost_name ≡ table.old.cells.ghost_name }
+    ensures kept { Kept table.old.cells table.new.cells }
 {
-    empty_all(&mut table.cells[start..start + count]);
+    table.cells[start..start + count].fill(None);
 }

@@ -2,9 +2,6 @@
 #![tactic(auto)]
 
 mod above;
-mod cell;
-mod free;
-mod holding;
 pub mod lending;
 pub mod records;
 pub mod tables;

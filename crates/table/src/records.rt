@@ -1,9 +1,9 @@
 ghost use Rattle.std.specs.Prelude.{◌≡◌};
-ghost use Rattle.table.specs.Cells.{Keyed};
+ghost use Rattle.table.specs.Cells.{Keyed, compared};
 
 /// A record that a table can hold: it has a key, and keys have an order.
 pub trait Record: Copy {
-    type Key: Copy;
+    type Key: Copy + Ord;
 
     ghost keyed: { Keyed Self Self.Key };
 
@@ -11,11 +11,6 @@ pub trait Record: Copy {
     fn key(&self) -> Self::Key
         ensures { result ≡ keyed.key self.now };
 
-    /// Whether this record has the key.
-    fn has(&self, key: &Self::Key) -> bool
-        ensures { result ≡ keyed.alike key.now (keyed.key self.now) };
-
-    /// Whether one key comes before another.
-    fn before(one: &Self::Key, other: &Self::Key) -> bool
-        ensures { result ≡ keyed.before one.now other.now };
+    // Keys compare as `keyed` has them.
+    ghost ordered: { (a b : Self.Key) → Self.Key.cmp a b ≡ compared keyed a b };
 }

@@ -7,7 +7,7 @@ pub struct Coin {
 }
 
 /// The key of a coin.
-#[derive(Clone, Copy)]
+#[derive(Clone, Copy, PartialEq, Eq, PartialOrd, Ord, Debug)]
 pub struct Ends {
     pub source: u8,
     pub destination: u8,

@@ -1,4 +1,5 @@
 ghost use Rattle.table_tests.specs.Keys.{by_ends, by_mark};
+ghost use Rattle.table.specs.Keys.{by_tests};
 
 use crate::coins::{Coin, Ends, Mark};
 use table::records::Record;
@@ -8,20 +9,13 @@ impl Record for Coin {
 
     ghost keyed = { by_ends };
 
+    ghost ordered = { λ a b. by_tests _ };
+
     fn key(&self) -> Ends {
         Ends {
             source: self.source,
             destination: self.destination,
         }
-    }
-
-    fn has(&self, key: &Ends) -> bool {
-        key.source == self.source && key.destination == self.destination
-    }
-
-    fn before(one: &Ends, other: &Ends) -> bool {
-        one.source < other.source
-            || one.source == other.source && one.destination < other.destination
     }
 }
 
@@ -30,15 +24,9 @@ impl Record for Mark {
 
     ghost keyed = { by_mark };
 
+    ghost ordered = { λ a b. by_tests _ };
+
     fn key(&self) -> u8 {
         self.number
-    }
-
-    fn has(&self, key: &u8) -> bool {
-        *key == self.number
-    }
-
-    fn before(one: &u8, other: &u8) -> bool {
-        *one < *other
     }
 }

@@ -1,4 +1,4 @@
-ghost use Rattle.std.specs.Prelude.{◌<◌, ◌≤◌, length};
+ghost use Rattle.std.specs.Prelude.{◌≡◌, ◌<◌, ◌≤◌, length, Some, slice_set};
 
 use crate::coins::{Coin, Mark};
 use table::lending::clear_in;
@@ -20,4 +20,13 @@ pub fn use_coins(memory: &mut Memory<'_>, place: usize, coin: Coin)
     memory.coins.remove(3);
     clear_in(&mut memory.coins, 4, 4);
     memory.marks.clear();
+}
+
+/// Stores a mark in lent memory by a table over it: the memory has it when it comes back.
+pub fn store_in(cells: &mut [Option<Mark>], place: usize, mark: Mark)
+    requires { place < length cells.old }
+    ensures { cells.new ≡ slice_set cells.old place (Some mark) }
+{
+    let mut table = Table { cells };
+    table.store(place, mark);
 }

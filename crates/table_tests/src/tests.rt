@@ -1,5 +1,6 @@
-use crate::coins::{Coin, Ends};
+use crate::coins::{Coin, Ends, Mark};
 use std::test::Fail;
+use table::lending::clear_in;
 use table::tables::Table;
 
 fn coin(source: u8, destination: u8, value: u32) -> Coin {
@@ -15,6 +16,10 @@ fn ends(source: u8, destination: u8) -> Ends {
         source,
         destination,
     }
+}
+
+fn mark(number: u8, value: u32) -> Mark {
+    Mark { number, value }
 }
 
 #[test]
@@ -50,4 +55,21 @@ fn rises(rt: HostRuntime) {
     assert_eq!(rt; table.next_above(Some(ends(1, 9))), Some(0));
     assert_eq!(rt; table.next_above(Some(ends(2, 1))), Some(3));
     assert_eq!(rt; table.next_above(Some(ends(2, 3))), None);
+}
+
+#[test]
+fn empties(rt: HostRuntime) {
+    let (three, five, four) = (mark(3, 7), mark(5, 8), mark(4, 9));
+    let mut cells = [Some(three), Some(five), Some(four)];
+    let mut table = Table {
+        cells: &mut cells[..],
+    };
+    assert_eq!(rt; table.at(1), Some(five));
+    assert_eq!(rt; table.at(3), None);
+    assert_eq!(rt; table.next_above(Some(3)), Some(2));
+    clear_in(&mut table, 0, 2);
+    assert_eq!(rt; table.free(), Some(0));
+    assert_eq!(rt; table.get(&4), Some(four));
+    table.clear();
+    assert!(rt; table.free_places() == 3);
 }
