@@ -1,8 +1,7 @@
 //! A line of a log, taken byte by byte in constant memory.
-ghost use Rattle.std.specs.Prelude.{◌≡◌, ℕ, List, [], ◌∷◌, ◌++◌, Ok, Err, MatchResult, ◌==◌};
+ghost use Rattle.std.specs.Prelude.{◌≡◌, ℕ, List, [], ◌∷◌, ◌++◌, Ok, Err, MatchResult};
 ghost use Rattle.frame_logs.specs.Held.{Shows};
 ghost use Rattle.frame_logs.specs.Lines.{Holds, line_bytes};
-ghost use Rattle.frame_logs.specs.Text.{carriage_return};
 ghost use Rattle.frame_logs.specs.Writing.{ReadBack};
 
 use crate::digits::Digits;
@@ -15,12 +14,6 @@ const RETURN: u8 = b'\r';
 pub struct Line {
     digits: Digits,
     returned: bool,
-}
-
-fn is_return(byte: u8) -> bool
-    ensures { result ≡ (byte == carriage_return) }
-{
-    byte == RETURN
 }
 
 impl Line {
@@ -38,10 +31,9 @@ impl Line {
     fn settle(&mut self)
         ensures { (text : List ℕ) → Holds self.old text → Shows self.new.digits text }
     {
-        if !self.returned {
-            return;
+        if self.returned {
+            self.digits.feed(RETURN);
         }
-        self.digits.feed(RETURN);
     }
 
     /// Takes the next byte of the line.
@@ -49,10 +41,8 @@ impl Line {
         ensures { (text : List ℕ) → Holds self.old text → Holds self.new (text ++ byte ∷ []) }
     {
         self.settle();
-        if is_return(byte) {
-            self.returned = true;
-        } else {
-            self.returned = false;
+        self.returned = byte == RETURN;
+        if !self.returned {
             self.digits.feed(byte);
         }
     }
