@@ -6,9 +6,10 @@ ghost use Rattle.frame_logs.specs.Waiting.{waiting};
 use crate::digit::digit;
 use crate::standing::{NoHexadecimal, Standing};
 use arrayvec::ArrayVec;
+use protocol::limits::FRAME_BYTES_MAX;
 
 /// So many bytes are kept of a line: one more than the longest frame has, so that a longer line is still known as too long.
-pub const KEPT_MAX: usize = 1837;
+pub const KEPT_MAX: usize = FRAME_BYTES_MAX + 1;
 
 /// What the digits of a line have written so far.
 #[derive(Drop)]

@@ -6,13 +6,14 @@ ghost use Rattle.frame_logs.specs.Runs.{HighestStands, PairsStand};
 ghost use Rattle.frame_logs.specs.Summaries.{blank, with_frame, with_token, with_refusal, with_no_hexadecimal};
 
 use crate::counts::{Clocks, count_one, higher};
+use protocol::limits::NODES_MAX;
 use protocol::refusal::Condition;
 
 /// Places for the numbers of conditions.
 const CONDITIONS: usize = 32;
 
 /// Places for the numbers of nodes; no node has the first.
-const NUMBERS: usize = 17;
+const NUMBERS: usize = NODES_MAX as usize + 1;
 
 /// What the lines of a log showed so far.
 #[derive(Clone, Copy)]
