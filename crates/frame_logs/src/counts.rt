@@ -11,6 +11,7 @@ pub struct Clocks {
 }
 
 /// Counts one more at an index, where the row has it; the largest number stands for itself and all above. (It tests the index, since a proof learns nothing of what is written through a slice's `get_mut`.)
+#[tactic(auto, using(crate::specs::Runs::counts_stand))]
 pub fn count_one(row: &mut [u64], index: usize)
     ensures after { row.new ≡ one_more row.old index }
     ensures stand { CountsStand }

@@ -43,6 +43,7 @@ impl Summary {
     }
 
     /// Counts a frame, and notes its sender's clocks.
+    #[tactic(auto, using(crate::specs::Runs::highest_stands))]
     pub fn add_frame(&mut self, sender: u8, clocks: Clocks)
         ensures after { self.new ≡ with_frame self.old sender clocks }
         ensures stand { HighestStands }
@@ -55,6 +56,7 @@ impl Summary {
     }
 
     /// Counts a token that a frame showed.
+    #[tactic(auto, using(crate::specs::Runs::pairs_stand))]
     pub fn add_token(&mut self, source: u8, destination: u8)
         ensures after { self.new ≡ with_token self.old source destination }
         ensures stand { PairsStand }
