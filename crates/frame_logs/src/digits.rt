@@ -47,6 +47,7 @@ impl Digits {
     }
 
     // Keeps a byte, while there is room.
+    #[tactic(auto, using(crate::proofs::Kept::kept_more))]
     fn keep(&mut self, byte: u8)
         ensures { seen self.new ≡ record { bytes = push (seen self.old).bytes byte; standing = Paired } }
     {
@@ -69,6 +70,7 @@ impl Digits {
     }
 
     /// Takes the next byte of the text.
+    #[tactic(auto, using(crate::specs::Steps::after_more))]
     pub fn feed(&mut self, byte: u8)
         ensures { (text : List ℕ) → Shows self.old text → Shows self.new (text ++ byte ∷ []) }
     {
@@ -76,6 +78,7 @@ impl Digits {
     }
 
     /// The bytes that the text so far writes, as many as are kept, or why it writes none.
+    #[tactic(auto, using(crate::proofs::Kept::kept_decoded))]
     pub fn written(&self) -> Result<&[u8], NoHexadecimal>
         ensures { (text : List ℕ) → Shows self.now text → MatchResult result (λ bytes. kept_of (decoded text) ≡ Ok bytes.now) (λ why. kept_of (decoded text) ≡ Err why) }
     {

@@ -28,6 +28,7 @@ impl Line {
     }
 
     // A return that waited belongs to the text, now that something follows it.
+    #[tactic(auto, using(crate::specs::Text::whole, crate::specs::Text::rejoined))]
     fn settle(&mut self)
         ensures { (text : List ℕ) → Holds self.old text → Shows self.new.digits text }
     {
@@ -37,6 +38,7 @@ impl Line {
     }
 
     /// Takes the next byte of the line.
+    #[tactic(auto, using(crate::specs::Text::trimmed_more, crate::specs::Text::ends_more))]
     pub fn take(&mut self, byte: u8)
         ensures { (text : List ℕ) → Holds self.old text → Holds self.new (text ++ byte ∷ []) }
     {
@@ -48,6 +50,7 @@ impl Line {
     }
 
     /// The bytes that the line writes, none if it is blank; or why it writes none.
+    #[tactic(auto, using(crate::specs::Writing::read_back))]
     pub fn bytes(&self) -> Result<&[u8], NoHexadecimal>
         ensures written { (text : List ℕ) → Holds self.now text → MatchResult result (λ bytes. line_bytes text ≡ Ok bytes.now) (λ why. line_bytes text ≡ Err why) }
         ensures back { ReadBack }
