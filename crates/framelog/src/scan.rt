@@ -1,7 +1,6 @@
 //! Logs read as streams, line by line.
 use crate::account::{Place, print_frame};
 use crate::conditions::Meaning;
-use crate::failure::Failure;
 use frame::reader::{item_at, item_count, read};
 use frame::received::Received;
 use frame_logs::counts::Clocks;
@@ -15,10 +14,13 @@ use std::io;
 use std::io::Read;
 use tally::kind::Tally;
 
-/// What the logs showed so far, and whether each line is told in full.
+/// What the logs showed so far.
 #[derive(Drop)]
 pub struct Scan {
+    /// Whether each line is told in full.
     pub in_full: bool,
+    /// Whether each log so far was read to its end.
+    pub all_read: bool,
     pub summary: Summary,
 }
 
@@ -44,10 +46,12 @@ impl Scan {
     ) -> io::Result<()> {
         self.summary.add_refusal(&fault.condition);
         if self.in_full {
-            let number = fault.condition.number();
-            let byte = fault.place;
-            let meaning = Meaning { fault };
-            println!(rt; "{place}: refused by condition {number} at byte {byte}: {meaning}")?;
+            println!(rt;
+                "{place}: refused by condition {} at byte {}: {}",
+                fault.condition.number(),
+                fault.place,
+                Meaning { fault }
+            )?;
         }
         Ok(())
     }
@@ -111,27 +115,30 @@ impl Scan {
         Ok(())
     }
 
-    /// Reads a log to its end. Where reading fails the log is named, and the answer is that it was not read.
+    /// Names a log that is not read to its end. The logs after it are still read.
+    pub fn pass_over(&mut self, rt: &HostRuntime, name: &str, error: &io::Error) -> io::Result<()> {
+        self.all_read = false;
+        eprintln!(rt; "framelog: {name}: {error}")
+    }
+
+    /// Reads a log to its end, or passes over what cannot be read of it.
     pub fn read_all<K: Tally + Told, R: Read>(
         &mut self,
         rt: &HostRuntime,
         name: &str,
         log: &mut R,
-    ) -> Result<bool, Failure> {
+    ) -> io::Result<()> {
         let mut place = Place { name, line: 1 };
         let mut line = Line::empty();
         let mut buffer = [0u8; 4096];
+        // As good as endless: a loop with no end would need the handle `Wait`.
         for _ in 0..u64::MAX {
             match log.read(&mut buffer) {
                 Ok(0) => break,
-                Ok(count) => self.take_chunk::<K>(rt, &buffer[0..count], &mut place, &mut line)?,
-                Err(error) => {
-                    eprintln!(rt; "framelog: {name}: {error}")?;
-                    return Ok(false);
-                }
+                Ok(count) => self.take_chunk::<K>(rt, &buffer[..count], &mut place, &mut line)?,
+                Err(error) => return self.pass_over(rt, name, &error),
             }
         }
-        self.end_line::<K>(rt, &place, &line)?;
-        Ok(true)
+        self.end_line::<K>(rt, &place, &line)
     }
 }
