@@ -9,7 +9,6 @@ mod request;
 mod scan;
 
 use failure::Failure;
-use frame_logs::summary::Summary;
 use frame_logs::tallies::Told;
 use movements::Movements;
 use request::{Account, HELP, Kind, Request};
@@ -29,11 +28,7 @@ fn read_file<K: Tally + Told>(rt: &HostRuntime, name: &str, scan: &mut Scan) -> 
 
 // Reads the logs that were asked for, then prints the summary.
 fn print_account<K: Tally + Told>(rt: &HostRuntime, account: &Account) -> Result<(), Failure> {
-    let mut scan = Scan {
-        in_full: !account.summary_only,
-        all_read: true,
-        summary: Summary::blank(),
-    };
+    let mut scan = Scan::new(!account.summary_only);
     if account.files.is_empty() {
         scan.read_all::<K, _>(rt, "stdin", &mut rt.stdin())?;
     }

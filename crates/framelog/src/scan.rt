@@ -18,13 +18,22 @@ use tally::kind::Tally;
 #[derive(Drop)]
 pub struct Scan {
     /// Whether each line is told in full.
-    pub in_full: bool,
+    in_full: bool,
     /// Whether each log so far was read to its end.
     pub all_read: bool,
     pub summary: Summary,
 }
 
 impl Scan {
+    /// Of no log.
+    pub fn new(in_full: bool) -> Scan {
+        Scan {
+            in_full,
+            all_read: true,
+            summary: Summary::blank(),
+        }
+    }
+
     fn no_hexadecimal(
         &mut self,
         rt: &HostRuntime,
