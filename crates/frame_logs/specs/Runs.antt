@@ -1,5 +1,5 @@
 -- Counting and raising over a whole run.
-use Rattle.std.specs.Prelude.{◌≡◌, ℕ, ◌+◌, ◌^◌, ◌<◌, ◌≤◌, Bool, true, false, cond, ◌&&◌, List, [], ◌∷◌, length, Some, None, Option, ◌==◌, slice_index, slice_index_or, slice_set, refl}
+use Rattle.std.specs.Prelude.{◌≡◌, ℕ, ◌+◌, ◌^◌, ◌<◌, ◌≤◌, Bool, true, false, cond, if◌then◌else◌, ◌&&◌, List, [], ◌∷◌, length, Some, None, Option, ◌==◌, slice_index, slice_index_or, slice_set, refl}
 use Rattle.std.proofs.Common.{sym, ap, ◌∙◌, ⊎_elim, arith, length-set}
 use Rattle.std.proofs.lemmas.List.{get_or-set_same, get_or-set_other}
 use Rattle.std.proofs.lemmas.Bool.{cases_eq, eq-eqb, ne_eqb, cond-true, cond-false}
@@ -9,7 +9,7 @@ use Rattle.frame_logs.specs.Counts.{stop, one_more, one_more_between, count_betw
 -- how often a place comes in a run
 abbrev pub times : ℕ → List ℕ → ℕ
 times i [] = 0
-times i (j ∷ run) = cond (i == j) 1 0 + times i run
+times i (j ∷ run) = (if i == j then 1 else 0) + times i run
 
 -- a row after a run of counts
 abbrev pub counted : List ℕ → List ℕ → List ℕ
@@ -44,7 +44,7 @@ counts_stand (j ∷ run) row i l h =
 -- how often a pair of places comes in a run
 abbrev pub times_between : ℕ → ℕ → List (ℕ × ℕ) → ℕ
 times_between i j [] = 0
-times_between i j (p ∷ run) = cond (i == p.0 && j == p.1) 1 0 + times_between i j run
+times_between i j (p ∷ run) = (if i == p.0 && j == p.1 then 1 else 0) + times_between i j run
 
 -- rows after a run of counts
 abbrev pub counted_between : List (List ℕ) → List (ℕ × ℕ) → List (List ℕ)

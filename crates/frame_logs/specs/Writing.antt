@@ -1,12 +1,12 @@
 -- Every row of bytes is written in digits, and read back.
-use Rattle.std.specs.Prelude.{◌≡◌, ℕ, ◌+◌, ◌*◌, ◌/◌, ◌%◌, ◌<◌, ◌≤◌, cond, List, [], ◌∷◌, Some, None, Ok, nat_le, nat_lt, refl}
+use Rattle.std.specs.Prelude.{◌≡◌, ℕ, ◌+◌, ◌*◌, ◌/◌, ◌%◌, ◌<◌, ◌≤◌, if◌then◌else◌, List, [], ◌∷◌, Some, None, Ok, nat_le, nat_lt, refl}
 use Rattle.std.proofs.Common.{ap, ap₂, ◌∙◌, ⊎_elim, arith}
 use Rattle.std.proofs.lemmas.Bool.{cases_lt, cond-true, cond-false, lt-ltb, le-ltb, le-leb, lt-leb, and_from, and_right}
 use Rattle.frame_logs.specs.Hexadecimal.{digit_of, unless_digit, stranger, pair_of, more_of, bytes_of, verdict, decoded}
 
 -- the small letter or figure of a digit
 abbrev pub figure : ℕ → ℕ
-figure d = cond (nat_lt d 10) (48 + d) (87 + d)
+figure d = if nat_lt d 10 then 48 + d else 87 + d
 
 -- two figures for each byte
 abbrev pub figures : List ℕ → List ℕ

@@ -33,7 +33,7 @@ impl Digits {
     ghost use Rattle.std.specs.Prelude.{ℕ, List, [], ◌∷◌, ◌++◌, Ok, Err, MatchResult};
     ghost use Rattle.frame_logs.specs.declared.standing.Standing.TheVariants.{Paired};
     ghost use Rattle.frame_logs.specs.Hexadecimal.{decoded};
-    ghost use Rattle.frame_logs.specs.Steps.{push, kept_of, step};
+    ghost use Rattle.frame_logs.specs.Steps.{push, kept_of};
     ghost use Rattle.frame_logs.specs.Held.{seen, Shows};
 
     /// No digit yet.
@@ -55,9 +55,10 @@ impl Digits {
         let _ = self.bytes.try_push(byte);
     }
 
-    // What a byte does, by how the digits stand.
-    fn advance(&mut self, byte: u8)
-        ensures { seen self.new ≡ step (seen self.old) byte }
+    /// Takes the next byte of the text.
+    #[tactic(auto, using(crate::specs::Steps::after_more))]
+    pub fn feed(&mut self, byte: u8)
+        ensures { (text : List ℕ) → Shows self.old text → Shows self.new (text ++ byte ∷ []) }
     {
         match self.standing {
             Standing::Paired => self.standing = begun(byte),
@@ -67,14 +68,6 @@ impl Digits {
             },
             Standing::Broken(_) => {}
         }
-    }
-
-    /// Takes the next byte of the text.
-    #[tactic(auto, using(crate::specs::Steps::after_more))]
-    pub fn feed(&mut self, byte: u8)
-        ensures { (text : List ℕ) → Shows self.old text → Shows self.new (text ++ byte ∷ []) }
-    {
-        self.advance(byte);
     }
 
     /// The bytes that the text so far writes, as many as are kept, or why it writes none.
