@@ -1,8 +1,9 @@
 -- Counting and raising over a whole run.
 use Rattle.std.specs.Prelude.{◌≡◌, ℕ, ◌+◌, ◌^◌, ◌<◌, ◌≤◌, Bool, true, false, cond, if◌then◌else◌, ◌&&◌, List, [], ◌∷◌, length, Some, None, Option, ◌==◌, slice_index, slice_index_or, slice_set, refl}
-use Rattle.std.proofs.Common.{sym, ap, ◌∙◌, ⊎_elim, arith, length-set}
-use Rattle.std.proofs.lemmas.List.{get_or-set_same, get_or-set_other}
-use Rattle.std.proofs.lemmas.Bool.{cases_eq, eq-eqb, ne_eqb, cond-true, cond-false}
+use Rattle.std.proofs.Common.{ap, ◌∙◌, arith, length-set}
+use Rattle.std.proofs.lemmas.List.{get_or-set_other}
+use Rattle.std.proofs.lemmas.Bool.Decides.{nat_tests}
+use Rattle.std.proofs.lemmas.Grind.{common_steps}
 use Rattle.frame_logs.specs.declared.counts.Clocks.{Clocks}
 use Rattle.frame_logs.specs.Counts.{stop, one_more, one_more_between, count_between, highest}
 
@@ -22,11 +23,7 @@ CountsStand = (run row : List ℕ) (i : ℕ) → i < length row → slice_index 
 
 -- a change at one index, seen at any
 changed_here : {A : Type 0} (xs : List A) (d : A) (f : A → A) (i j : ℕ) → i < length xs → slice_index_or (slice_set xs j (f (slice_index_or xs j d))) i d ≡ cond (i == j) (f (slice_index_or xs i d)) (slice_index_or xs i d)
-changed_here xs d f i j l =
-    ⊎_elim
-    (λ (e : i ≡ j). ap (λ k. slice_index_or (slice_set xs k (f (slice_index_or xs k d))) i d) (sym e) ∙ get_or-set_same xs i (f (slice_index_or xs i d)) d l ∙ sym (cond-true (i == j) _ _ (eq-eqb i j e)))
-    (λ (n : i ≡ j → ⊥). get_or-set_other xs j i (f (slice_index_or xs j d)) d n ∙ sym (cond-false (i == j) _ _ (ne_eqb i j n)))
-    (cases_eq i j)
+changed_here xs d f i j l = grind (arith, common_steps, get_or-set_other, nat_tests)
 
 one_here : (row : List ℕ) (i j : ℕ) → i < length row → slice_index (one_more row j) i ≡ cond (i == j) (stop (slice_index row i + 1)) (slice_index row i)
 one_here row i j l = changed_here row 0 (λ n. stop (n + 1)) i j l
