@@ -24,6 +24,13 @@ pub struct Scan {
     pub summary: Summary,
 }
 
+/// The line of a log that is being read.
+#[derive(Drop)]
+struct CurrentLine<'a> {
+    place: Place<'a>,
+    text: Line,
+}
+
 impl Scan {
     /// Of no log.
     pub fn new(in_full: bool) -> Scan {
@@ -91,16 +98,15 @@ impl Scan {
     fn end_line<K: Tally + Told>(
         &mut self,
         rt: &HostRuntime,
-        place: &Place<'_>,
-        line: &Line,
+        current: &CurrentLine<'_>,
     ) -> io::Result<()> {
-        match line.bytes() {
+        match current.text.bytes() {
             Ok([]) => Ok(()),
             Ok(bytes) => match read::<K>(bytes) {
-                Ok(frame) => self.accepted::<K>(rt, place, &frame),
-                Err(fault) => self.refused(rt, place, fault),
+                Ok(frame) => self.accepted::<K>(rt, &current.place, &frame),
+                Err(fault) => self.refused(rt, &current.place, fault),
             },
-            Err(why) => self.no_hexadecimal(rt, place, why),
+            Err(why) => self.no_hexadecimal(rt, &current.place, why),
         }
     }
 
@@ -109,16 +115,15 @@ impl Scan {
         &mut self,
         rt: &HostRuntime,
         chunk: &[u8],
-        place: &mut Place<'_>,
-        line: &mut Line,
+        current: &mut CurrentLine<'_>,
     ) -> io::Result<()> {
         for byte in chunk {
             if *byte == b'\n' {
-                self.end_line::<K>(rt, place, line)?;
-                place.line = place.line.saturating_add(1);
-                *line = Line::empty();
+                self.end_line::<K>(rt, current)?;
+                current.place.line = current.place.line.saturating_add(1);
+                current.text = Line::empty();
             } else {
-                line.take(*byte);
+                current.text.take(*byte);
             }
         }
         Ok(())
@@ -137,17 +142,19 @@ impl Scan {
         name: &str,
         log: &mut R,
     ) -> io::Result<()> {
-        let mut place = Place { name, line: 1 };
-        let mut line = Line::empty();
+        let mut current = CurrentLine {
+            place: Place { name, line: 1 },
+            text: Line::empty(),
+        };
         let mut buffer = [0u8; 4096];
         // As good as endless: a loop with no end would need the handle `Wait`.
         for _ in 0..u64::MAX {
             match log.read(&mut buffer) {
                 Ok(0) => break,
-                Ok(count) => self.take_chunk::<K>(rt, &buffer[..count], &mut place, &mut line)?,
+                Ok(count) => self.take_chunk::<K>(rt, &buffer[..count], &mut current)?,
                 Err(error) => return self.pass_over(rt, name, &error),
             }
         }
-        self.end_line::<K>(rt, &place, &line)
+        self.end_line::<K>(rt, &current)
     }
 }
