@@ -1,11 +1,15 @@
 -- Bytes written in digits of base sixteen, two for each byte.
-use Rattle.std.specs.Prelude.{ℕ, ◌+◌, ◌-◌, ◌*◌, cond, ◌&&◌, List, [], ◌∷◌, Some, None, Ok, Err, Option, Result, nat_le}
+use Rattle.std.specs.Prelude.{ℕ, ◌+◌, ◌-◌, ◌*◌, if◌then◌else◌, ◌&&◌, List, [], ◌∷◌, Some, None, Ok, Err, Option, Result, nat_le}
 use Rattle.frame_logs.specs.declared.standing.NoHexadecimal.{NoHexadecimal}
 use Rattle.frame_logs.specs.declared.standing.NoHexadecimal.TheVariants.{OddDigits, NoDigit}
 
 -- the digit that a byte of text is: 0 to 9, a to f, A to F
 abbrev pub digit_of : ℕ → Option ℕ
-digit_of b = cond (nat_le 48 b && nat_le b 57) (Some (b - 48)) (cond (nat_le 97 b && nat_le b 102) (Some (b - 87)) (cond (nat_le 65 b && nat_le b 70) (Some (b - 55)) None))
+digit_of b =
+    if nat_le 48 b && nat_le b 57 then Some (b - 48)
+    else if nat_le 97 b && nat_le b 102 then Some (b - 87)
+    else if nat_le 65 b && nat_le b 70 then Some (b - 55)
+    else None
 
 -- the first byte of a text that is no digit
 abbrev pub unless_digit : Option ℕ → ℕ → Option ℕ → Option ℕ

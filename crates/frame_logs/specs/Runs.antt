@@ -1,15 +1,16 @@
 -- Counting and raising over a whole run.
-use Rattle.std.specs.Prelude.{◌≡◌, ℕ, ◌+◌, ◌^◌, ◌<◌, ◌≤◌, Bool, true, false, cond, List, [], ◌∷◌, length, Some, None, Option, ◌==◌, slice_index}
-use Rattle.std.proofs.Common.{sym, ap, ◌∙◌, ⊎_elim, arith, length-set}
-use Rattle.std.proofs.lemmas.List.{get_or-set_same, get_or-set_other}
-use Rattle.std.proofs.lemmas.Bool.{cases_eq, eq-eqb, ne_eqb, cond-true, cond-false}
+use Rattle.std.specs.Prelude.{◌≡◌, ℕ, ◌+◌, ◌^◌, ◌<◌, ◌≤◌, Bool, true, false, cond, if◌then◌else◌, ◌&&◌, List, [], ◌∷◌, length, Some, None, Option, ◌==◌, slice_index, slice_index_or, slice_set, refl}
+use Rattle.std.proofs.Common.{ap, ◌∙◌, arith, length-set}
+use Rattle.std.proofs.lemmas.List.{get_or-set_other}
+use Rattle.std.proofs.lemmas.Bool.Decides.{nat_tests}
+use Rattle.std.proofs.lemmas.Grind.{common_steps}
 use Rattle.frame_logs.specs.declared.counts.Clocks.{Clocks}
-use Rattle.frame_logs.specs.Counts.{stop, one_more, highest}
+use Rattle.frame_logs.specs.Counts.{stop, one_more, one_more_between, count_between, highest}
 
 -- how often a place comes in a run
 abbrev pub times : ℕ → List ℕ → ℕ
 times i [] = 0
-times i (j ∷ run) = cond (i == j) 1 0 + times i run
+times i (j ∷ run) = (if i == j then 1 else 0) + times i run
 
 -- a row after a run of counts
 abbrev pub counted : List ℕ → List ℕ → List ℕ
@@ -20,12 +21,12 @@ counted row (j ∷ run) = counted (one_more row j) run
 abbrev pub CountsStand : Type 0
 CountsStand = (run row : List ℕ) (i : ℕ) → i < length row → slice_index row i < 2 ^ 64 → slice_index (counted row run) i ≡ stop (slice_index row i + times i run)
 
+-- a change at one index, seen at any
+changed_here : {A : Type 0} (xs : List A) (d : A) (f : A → A) (i j : ℕ) → i < length xs → slice_index_or (slice_set xs j (f (slice_index_or xs j d))) i d ≡ cond (i == j) (f (slice_index_or xs i d)) (slice_index_or xs i d)
+changed_here xs d f i j l = grind (arith, common_steps, get_or-set_other, nat_tests)
+
 one_here : (row : List ℕ) (i j : ℕ) → i < length row → slice_index (one_more row j) i ≡ cond (i == j) (stop (slice_index row i + 1)) (slice_index row i)
-one_here row i j l =
-    ⊎_elim
-    (λ (e : i ≡ j). ap (λ k. slice_index (one_more row k) i) (sym e) ∙ get_or-set_same row i (stop (slice_index row i + 1)) 0 l ∙ sym (cond-true (i == j) _ _ (eq-eqb i j e)))
-    (λ (n : i ≡ j → ⊥). get_or-set_other row j i (stop (slice_index row j + 1)) 0 n ∙ sym (cond-false (i == j) _ _ (ne_eqb i j n)))
-    (cases_eq i j)
+one_here row i j l = changed_here row 0 (λ n. stop (n + 1)) i j l
 
 step_here : (t : Bool) (n m k : ℕ) → n < 2 ^ 64 → m ≡ cond t (stop (n + 1)) n → (m < 2 ^ 64) × (stop (m + k) ≡ stop (n + (cond t 1 0 + k)))
 step_here true n m k h e = (omega arith, omega arith)
@@ -36,6 +37,42 @@ counts_stand [] row i l h = omega arith
 counts_stand (j ∷ run) row i l h =
     let s = step_here (i == j) (slice_index row i) (slice_index (one_more row j) i) (times i run) h (one_here row i j l) in
     counts_stand run (one_more row j) i (omega (arith, length-set row j (stop (slice_index row j + 1)))) s.0 ∙ s.1
+
+-- how often a pair of places comes in a run
+abbrev pub times_between : ℕ → ℕ → List (ℕ × ℕ) → ℕ
+times_between i j [] = 0
+times_between i j (p ∷ run) = (if i == p.0 && j == p.1 then 1 else 0) + times_between i j run
+
+-- rows after a run of counts
+abbrev pub counted_between : List (List ℕ) → List (ℕ × ℕ) → List (List ℕ)
+counted_between rows [] = rows
+counted_between rows (p ∷ run) = counted_between (one_more_between rows p.0 p.1) run
+
+-- the same of rows: each count is what it was and how often its pair of places came
+abbrev pub PairsStand : Type 0
+PairsStand = (run : List (ℕ × ℕ)) (rows : List (List ℕ)) (i j : ℕ) → i < length rows → j < length (slice_index_or rows i []) → count_between rows i j < 2 ^ 64
+    → count_between (counted_between rows run) i j ≡ stop (count_between rows i j + times_between i j run)
+
+row_here : (rows : List (List ℕ)) (i a b : ℕ) → i < length rows → slice_index_or (one_more_between rows a b) i [] ≡ cond (i == a) (one_more (slice_index_or rows i []) b) (slice_index_or rows i [])
+row_here rows i a b l = changed_here rows [] (λ row. one_more row b) i a l
+
+as_long : (t : Bool) (row : List ℕ) (b : ℕ) → length (cond t (one_more row b) row) ≡ length row
+as_long true row b = length-set row b (stop (slice_index row b + 1))
+as_long false row b = refl
+
+one_in_row : (t : Bool) (row : List ℕ) (j b : ℕ) → j < length row → slice_index (cond t (one_more row b) row) j ≡ cond (t && j == b) (stop (slice_index row j + 1)) (slice_index row j)
+one_in_row true row j b m = one_here row j b m
+one_in_row false row j b m = refl
+
+pub pairs_stand : PairsStand
+pairs_stand [] rows i j l m h = omega arith
+pairs_stand (p ∷ run) rows i j l m h =
+    let row = slice_index_or rows i [] in
+    let e = row_here rows i p.0 p.1 l in
+    let k : length (slice_index_or (one_more_between rows p.0 p.1) i []) ≡ length row = ap length e ∙ as_long (i == p.0) row p.1 in
+    let c = ap (λ r. slice_index r j) e ∙ one_in_row (i == p.0) row j p.1 m in
+    let s = step_here (i == p.0 && j == p.1) (count_between rows i j) (count_between (one_more_between rows p.0 p.1) i j) (times_between i j run) h c in
+    pairs_stand run (one_more_between rows p.0 p.1) i j (omega (arith, length-set rows p.0 (one_more (slice_index_or rows p.0 []) p.1))) (omega arith) s.0 ∙ s.1
 
 -- the highest clocks of a run
 abbrev pub highest_of : Option Clocks → List Clocks → Option Clocks

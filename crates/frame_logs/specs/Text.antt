@@ -1,5 +1,5 @@
 -- The text of a line: a carriage return at its end does not belong to it.
-use Rattle.std.specs.Prelude.{◌≡◌, ℕ, Bool, true, false, cond, List, [], ◌∷◌, ◌++◌, ◌==◌, refl}
+use Rattle.std.specs.Prelude.{◌≡◌, ℕ, Bool, true, false, cond, if◌then◌else◌, List, [], ◌∷◌, ◌++◌, ◌==◌, refl}
 use Rattle.std.proofs.Common.{sym, ap, ◌∙◌, arith}
 use Rattle.std.proofs.lemmas.Bool.{eqb-true}
 
@@ -15,7 +15,7 @@ ends_in_return (b ∷ c ∷ text) = ends_in_return (c ∷ text)
 -- the text without it
 abbrev pub trimmed : List ℕ → List ℕ
 trimmed [] = []
-trimmed (b ∷ []) = cond (b == carriage_return) [] (b ∷ [])
+trimmed (b ∷ []) = if b == carriage_return then [] else b ∷ []
 trimmed (b ∷ c ∷ text) = b ∷ trimmed (c ∷ text)
 
 pub ends_more : (text : List ℕ) (b : ℕ) → ends_in_return (text ++ b ∷ []) ≡ (b == carriage_return)

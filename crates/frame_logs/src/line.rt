@@ -1,8 +1,7 @@
 //! A line of a log, taken byte by byte in constant memory.
-ghost use Rattle.std.specs.Prelude.{◌≡◌, ℕ, List, [], ◌∷◌, ◌++◌, Ok, Err, MatchResult, ◌==◌};
+ghost use Rattle.std.specs.Prelude.{◌≡◌, ℕ, List, [], ◌∷◌, ◌++◌, Ok, Err, MatchResult};
 ghost use Rattle.frame_logs.specs.Held.{Shows};
 ghost use Rattle.frame_logs.specs.Lines.{Holds, line_bytes};
-ghost use Rattle.frame_logs.specs.Text.{carriage_return};
 ghost use Rattle.frame_logs.specs.Writing.{ReadBack};
 
 use crate::digits::Digits;
@@ -17,12 +16,6 @@ pub struct Line {
     returned: bool,
 }
 
-fn is_return(byte: u8) -> bool
-    ensures { result ≡ (byte == carriage_return) }
-{
-    byte == RETURN
-}
-
 impl Line {
     /// A line with nothing on it.
     pub fn empty() -> Line
@@ -35,29 +28,29 @@ impl Line {
     }
 
     // A return that waited belongs to the text, now that something follows it.
+    #[tactic(auto, using(crate::specs::Text::whole, crate::specs::Text::rejoined))]
     fn settle(&mut self)
         ensures { (text : List ℕ) → Holds self.old text → Shows self.new.digits text }
     {
-        if !self.returned {
-            return;
+        if self.returned {
+            self.digits.feed(RETURN);
         }
-        self.digits.feed(RETURN);
     }
 
     /// Takes the next byte of the line.
+    #[tactic(auto, using(crate::specs::Text::trimmed_more, crate::specs::Text::ends_more))]
     pub fn take(&mut self, byte: u8)
         ensures { (text : List ℕ) → Holds self.old text → Holds self.new (text ++ byte ∷ []) }
     {
         self.settle();
-        if is_return(byte) {
-            self.returned = true;
-        } else {
-            self.returned = false;
+        self.returned = byte == RETURN;
+        if !self.returned {
             self.digits.feed(byte);
         }
     }
 
     /// The bytes that the line writes, none if it is blank; or why it writes none.
+    #[tactic(auto, using(crate::specs::Writing::read_back))]
     pub fn bytes(&self) -> Result<&[u8], NoHexadecimal>
         ensures written { (text : List ℕ) → Holds self.now text → MatchResult result (λ bytes. line_bytes text ≡ Ok bytes.now) (λ why. line_bytes text ≡ Err why) }
         ensures back { ReadBack }

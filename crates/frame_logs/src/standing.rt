@@ -1,4 +1,4 @@
-use std::fmt;
+use thiserror::Error;
 
 /// How far the digits of a line have come.
 #[derive(Clone, Copy)]
@@ -12,19 +12,12 @@ pub enum Standing {
 }
 
 /// Why a line writes no bytes.
-#[derive(Clone, Copy, PartialEq, Eq, Debug)]
+#[derive(Clone, Copy, PartialEq, Eq, Debug, Error)]
 pub enum NoHexadecimal {
     /// The last digit has no pair.
+    #[error("an odd number of digits")]
     OddDigits,
     /// This byte, the first of its kind, is no digit.
+    #[error("the byte {0:#04x} is no digit")]
     NoDigit(u8),
-}
-
-impl fmt::Display for NoHexadecimal {
-    fn fmt<W: fmt::Write>(&self, f: &mut fmt::Formatter<W>) -> fmt::Result {
-        match self {
-            NoHexadecimal::OddDigits => write!(f, "an odd number of digits"),
-            NoHexadecimal::NoDigit(byte) => write!(f, "the byte {byte:#04x} is no digit"),
-        }
-    }
 }

@@ -1,9 +1,11 @@
-//! The summary of a log: what its lines showed, counted in constant memory.
-ghost use Rattle.std.specs.Prelude.{◌≡◌, ◌+◌, ◌*◌, ◌&&◌, leb, if◌then◌else◌, Some, None, nat_le, slice_index, slice_index_or};
+//! The summary of a log: what its lines showed, counted in constant memory. Each count stops at the largest number, which stands for itself and all above.
+ghost use Rattle.std.specs.Prelude.{◌≡◌, None, slice_index, slice_index_or};
 ghost use Rattle.protocol.specs.Refusals.{condition_number};
-ghost use Rattle.frame_logs.specs.Summaries.{blank, with_frame, pair_place, with_token, with_refusal, with_no_hexadecimal};
+ghost use Rattle.frame_logs.specs.Counts.{count_between};
+ghost use Rattle.frame_logs.specs.Runs.{HighestStands, PairsStand};
+ghost use Rattle.frame_logs.specs.Summaries.{blank, with_frame, with_token, with_refusal, with_no_hexadecimal};
 
-use crate::counts::{Clocks, clocks_at, count_at, count_one, one_more, raise};
+use crate::counts::{Clocks, count_one, higher};
 use protocol::limits::NODES_MAX;
 use protocol::refusal::Condition;
 
@@ -11,10 +13,7 @@ use protocol::refusal::Condition;
 const CONDITIONS: usize = 32;
 
 /// Places for the numbers of nodes; no node has the first.
-const NUMBERS: usize = 17;
-
-/// Places for pairs of numbers of nodes.
-const PAIRS: usize = 289;
+const NUMBERS: usize = NODES_MAX as usize + 1;
 
 /// What the lines of a log showed so far.
 #[derive(Clone, Copy)]
@@ -25,18 +24,8 @@ pub struct Summary {
     pub no_hexadecimal: u64,
     refused: [u64; CONDITIONS],
     senders: [Option<Clocks>; NUMBERS],
-    tokens: [u64; PAIRS],
-}
-
-// The place of a pair of nodes among the tokens.
-fn pair_place(source: u8, destination: u8) -> Option<usize>
-    ensures { result ≡ (if leb source 16 && nat_le destination 16 then Some (pair_place source destination) else None) }
-{
-    if source <= NODES_MAX && destination <= NODES_MAX {
-        Some(usize::from(source) * NUMBERS + usize::from(destination))
-    } else {
-        None
-    }
+    // For each source, a count for each destination.
+    tokens: [[u64; NUMBERS]; NUMBERS],
 }
 
 impl Summary {
@@ -49,24 +38,32 @@ impl Summary {
             no_hexadecimal: 0,
             refused: [0; CONDITIONS],
             senders: [None; NUMBERS],
-            tokens: [0; PAIRS],
+            tokens: [[0; NUMBERS]; NUMBERS],
         }
     }
 
     /// Counts a frame, and notes its sender's clocks.
+    #[tactic(auto, using(crate::specs::Runs::highest_stands))]
     pub fn add_frame(&mut self, sender: u8, clocks: Clocks)
-        ensures { self.new ≡ with_frame self.old sender clocks }
+        ensures after { self.new ≡ with_frame self.old sender clocks }
+        ensures stand { HighestStands }
     {
-        self.frames = one_more(self.frames);
-        raise(&mut self.senders, usize::from(sender), clocks);
+        self.frames = self.frames.saturating_add(1);
+        let place = usize::from(sender);
+        if place < NUMBERS {
+            self.senders[place] = Some(higher(self.senders[place], clocks));
+        }
     }
 
     /// Counts a token that a frame showed.
+    #[tactic(auto, using(crate::specs::Runs::pairs_stand))]
     pub fn add_token(&mut self, source: u8, destination: u8)
-        ensures { self.new ≡ with_token self.old source destination }
+        ensures after { self.new ≡ with_token self.old source destination }
+        ensures stand { PairsStand }
     {
-        if let Some(place) = pair_place(source, destination) {
-            count_one(&mut self.tokens, place);
+        let row = usize::from(source);
+        if row < NUMBERS {
+            count_one(&mut self.tokens[row], usize::from(destination));
         }
     }
 
@@ -81,30 +78,34 @@ impl Summary {
     pub fn add_no_hexadecimal(&mut self)
         ensures { self.new ≡ with_no_hexadecimal self.old }
     {
-        self.no_hexadecimal = one_more(self.no_hexadecimal);
+        self.no_hexadecimal = self.no_hexadecimal.saturating_add(1);
     }
 
-    /// How many frames were refused by the condition of a number.
-    pub fn refusals(&self, number: u8) -> u64
-        ensures { result ≡ slice_index self.now.refused number }
+    /// How many frames were refused by a condition.
+    pub fn refusals(&self, condition: &Condition) -> u64
+        ensures { result ≡ slice_index self.now.refused (condition_number condition.now) }
     {
-        count_at(&self.refused, usize::from(number))
+        self.refused
+            .get(usize::from(condition.number()))
+            .copied()
+            .unwrap_or(0)
     }
 
     /// The highest clocks of a sender, if a frame of it was seen.
     pub fn highest_of(&self, sender: u8) -> Option<Clocks>
         ensures { result ≡ slice_index_or self.now.senders sender None }
     {
-        clocks_at(&self.senders, usize::from(sender))
+        self.senders.get(usize::from(sender)).copied().flatten()
     }
 
     /// How many frames showed a token from a source to a destination.
     pub fn tokens_between(&self, source: u8, destination: u8) -> u64
-        ensures { result ≡ (if leb source 16 && nat_le destination 16 then slice_index self.now.tokens (pair_place source destination) else 0) }
+        ensures { result ≡ count_between self.now.tokens source destination }
     {
-        match pair_place(source, destination) {
-            Some(place) => count_at(&self.tokens, place),
-            None => 0,
-        }
+        self.tokens
+            .get(usize::from(source))
+            .and_then(|row| row.get(usize::from(destination)))
+            .copied()
+            .unwrap_or(0)
     }
 }

@@ -1,11 +1,14 @@
 //! Tallies in words.
+ghost use Rattle.std.specs.Iterator.{IsFinite};
+
+use bands::Bounds;
 use movements::Movements;
-use movements::pair::PAIRS;
+use movements::pair::Pair;
 use std::fmt;
-use tally::queues::{EDGES, Queues};
+use tally::queues::Queues;
 use tally::vehicles::Vehicles;
 
-/// A tally that can be told in words.
+/// A tally that can be told in words. (The tallies are of other crates, so `Display` cannot be written for them here.)
 pub trait Told {
     fn tell<W: fmt::Write>(&self, f: &mut fmt::Formatter<W>) -> fmt::Result;
 }
@@ -22,6 +25,47 @@ impl<K: Told> fmt::Display for InWords<K> {
     }
 }
 
+/// A part of a tally that is not empty.
+#[derive(Clone, Copy)]
+enum Part {
+    /// Queues with the lengths of a band.
+    Queues(Bounds, u32),
+    /// A key with its count.
+    Key(Pair),
+    /// The counts of all keys that are not kept.
+    Rest(u32),
+}
+
+impl fmt::Display for Part {
+    fn fmt<W: fmt::Write>(&self, f: &mut fmt::Formatter<W>) -> fmt::Result {
+        match self {
+            Part::Queues(Bounds::From(first), count) => write!(f, "{first} and more: {count}"),
+            Part::Queues(bounds, count) => write!(f, "{bounds}: {count}"),
+            Part::Key(pair) => write!(f, "key {}: {}", pair.key, pair.count),
+            Part::Rest(rest) => write!(f, "rest {rest}"),
+        }
+    }
+}
+
+// Tells the parts with a comma between them; where there is none, that the tally is empty.
+fn tell_parts<W: fmt::Write, I: Iterator<Item = Part> + Drop>(
+    f: &mut fmt::Formatter<W>,
+    parts: I,
+) -> fmt::Result
+    requires can { I.can_next parts }
+    requires ends { IsFinite (I.remaining parts) }
+{
+    let mut any = false;
+    for part in parts {
+        if any {
+            f.write_str(", ")?;
+        }
+        write!(f, "{part}")?;
+        any = true;
+    }
+    if any { Ok(()) } else { f.write_str("empty") }
+}
+
 impl Told for Vehicles {
     fn tell<W: fmt::Write>(&self, f: &mut fmt::Formatter<W>) -> fmt::Result {
         match self.count {
@@ -32,63 +76,20 @@ impl Told for Vehicles {
     }
 }
 
-/// The queue lengths of a band.
-#[derive(Clone, Copy)]
-struct Band {
-    number: usize,
-}
-
-impl fmt::Display for Band {
-    fn fmt<W: fmt::Write>(&self, f: &mut fmt::Formatter<W>) -> fmt::Result {
-        let number = self.number;
-        if number >= 15 {
-            return write!(f, "50 and more");
-        }
-        let first = EDGES[number];
-        let last = EDGES[number + 1].saturating_sub(1);
-        if first == last {
-            write!(f, "{first}")
-        } else {
-            write!(f, "{first}-{last}")
-        }
-    }
-}
-
 impl Told for Queues {
     fn tell<W: fmt::Write>(&self, f: &mut fmt::Formatter<W>) -> fmt::Result {
-        let mut any = false;
-        for number in 0..16 {
-            let count = self.counts[number];
-            if count > 0 {
-                let band = Band { number };
-                let before = if any { ", " } else { "" };
-                write!(f, "{before}{band}: {count}")?;
-                any = true;
-            }
-        }
-        if any { Ok(()) } else { write!(f, "empty") }
+        let parts = self.counts.iter().enumerate().filter_map(|(band, count)| {
+            let bounds = Bounds::of(band)?;
+            (*count > 0).then_some(Part::Queues(bounds, *count))
+        });
+        tell_parts(f, parts)
     }
 }
 
 impl Told for Movements {
     fn tell<W: fmt::Write>(&self, f: &mut fmt::Formatter<W>) -> fmt::Result {
-        let mut any = false;
-        for index in 0..PAIRS {
-            let pair = self.pairs[index];
-            if pair.key != 0 {
-                let key = pair.key;
-                let count = pair.count;
-                let before = if any { ", " } else { "" };
-                write!(f, "{before}key {key}: {count}")?;
-                any = true;
-            }
-        }
-        let rest = self.rest;
-        match (any, rest) {
-            (false, 0) => write!(f, "empty"),
-            (true, 0) => Ok(()),
-            (false, _) => write!(f, "rest {rest}"),
-            (true, _) => write!(f, ", rest {rest}"),
-        }
+        let keys = self.pairs.iter().filter(|pair| pair.key != 0);
+        let rest = (self.rest != 0).then_some(Part::Rest(self.rest));
+        tell_parts(f, keys.map(|pair| Part::Key(*pair)).chain(rest))
     }
 }

@@ -1,35 +1,15 @@
 use std::alloc::AllocError;
-use std::{fmt, io};
+use std::io;
+use thiserror::Error;
 
 /// Why the comparison cannot go on.
-#[derive(Debug, Drop)]
+#[derive(Debug, Drop, Error)]
 pub enum Failure {
-    /// A line is no frame with a verdict.
+    #[error("a line is no frame with a verdict")]
     NoVector,
-    /// There is no memory left.
-    Memory,
+    #[error("there is no memory left")]
+    Memory(#[from(alloc)] AllocError),
     /// Reading or writing failed.
-    Broken(io::Error),
-}
-
-impl fmt::Display for Failure {
-    fn fmt<W: fmt::Write>(&self, f: &mut fmt::Formatter<W>) -> fmt::Result {
-        match self {
-            Failure::NoVector => write!(f, "a line is no frame with a verdict"),
-            Failure::Memory => write!(f, "there is no memory left"),
-            Failure::Broken(error) => write!(f, "{error}"),
-        }
-    }
-}
-
-impl From<AllocError> for Failure {
-    fn from(_error: AllocError) -> Failure {
-        Failure::Memory
-    }
-}
-
-impl From<io::Error> for Failure {
-    fn from(error: io::Error) -> Failure {
-        Failure::Broken(error)
-    }
+    #[error(transparent)]
+    Broken(#[from] io::Error),
 }

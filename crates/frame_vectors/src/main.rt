@@ -5,70 +5,55 @@ mod failure;
 mod verdict;
 
 use failure::Failure;
-use frame_logs::line::Line;
 use movements::Movements;
 use std::fs;
 use std::process::ExitCode;
 use tally::kind::Tally;
 use tally::queues::Queues;
 use tally::vehicles::Vehicles;
-use verdict::Verdict;
+use verdict::judge;
 
 /// How many frames of a file were judged, and how many verdicts were as expected.
-#[derive(Clone, Copy)]
+#[derive(Clone, Copy, Default)]
 struct Compared {
     frames: u64,
     as_expected: u64,
 }
 
-// The verdict on a frame in hexadecimal.
-fn judged<K: Tally>(digits: &[u8]) -> Verdict {
-    let mut line = Line::empty();
-    for byte in digits {
-        line.take(*byte);
+impl Compared {
+    // Compares the verdict on a frame with what is expected, and prints a difference.
+    fn add<K: Tally>(
+        &mut self,
+        rt: &HostRuntime,
+        digits: &str,
+        expected: &str,
+    ) -> Result<(), Failure> {
+        self.frames = self.frames.saturating_add(1);
+        let found = match judge::<K>(digits.as_bytes()) {
+            Ok(()) => format!(in rt.alloc(); "ok")?,
+            Err(why) => format!(in rt.alloc(); "{why}")?,
+        };
+        if found.as_str() == expected {
+            self.as_expected = self.as_expected.saturating_add(1);
+        } else {
+            println!(rt; "frame {}: expected {expected}, found {found}", self.frames)?;
+        }
+        Ok(())
     }
-    verdict::of_line::<K>(&line)
-}
-
-fn same_text(one: &str, other: &str) -> bool {
-    one == other
-}
-
-// Compares the verdict on a frame with what is expected, and prints a difference.
-fn compare<K: Tally>(
-    rt: &HostRuntime,
-    digits: &str,
-    expected: &str,
-    compared: &mut Compared,
-) -> Result<(), Failure> {
-    compared.frames = compared.frames.saturating_add(1);
-    let verdict = judged::<K>(digits.as_bytes());
-    let found = format!(in rt.alloc(); "{verdict}")?;
-    if same_text(found.as_str(), expected) {
-        compared.as_expected = compared.as_expected.saturating_add(1);
-    } else {
-        let number = compared.frames;
-        println!(rt; "frame {number}: expected {expected}, found {found}")?;
-    }
-    Ok(())
 }
 
 // Compares the frames of a file, and prints how many were as expected.
 fn compare_file<K: Tally>(rt: &HostRuntime, name: &str) -> Result<(), Failure> {
     let text = fs::read_to_string(rt, name)?;
-    let mut compared = Compared {
-        frames: 0,
-        as_expected: 0,
-    };
+    let mut compared = Compared::default();
     for line in text.as_str().lines() {
-        let Some((digits, expected)) = line.split_once(" -> ") else {
-            return Err(Failure::NoVector);
-        };
-        compare::<K>(rt, digits, expected, &mut compared)?;
+        let (digits, expected) = line.split_once(" -> ").ok_or(Failure::NoVector)?;
+        compared.add::<K>(rt, digits, expected)?;
     }
-    let frames = compared.frames;
-    let as_expected = compared.as_expected;
-    println!(rt; "{name}: {frames} frames, {as_expected} as expected")?;
+    println!(rt;
+        "{name}: {} frames, {} as expected",
+        compared.frames, compared.as_expected
+    )?;
     Ok(())
 }
 
@@ -79,6 +64,7 @@ fn run(rt: &HostRuntime) -> Result<(), Failure> {
     compare_file::<Movements>(rt, "lengths.frames")
 }
 
+// An `Err` from here would be printed in other words.
 fn main(rt: HostRuntime) -> ExitCode {
     match run(&rt) {
         Ok(()) => ExitCode::SUCCESS,

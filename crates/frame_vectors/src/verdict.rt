@@ -1,46 +1,53 @@
 //! The verdict on a frame, as the files write it.
 use frame::reader::read;
 use frame_logs::line::Line;
+use frame_logs::standing::NoHexadecimal;
 use protocol::refusal::FrameFault;
 use std::fmt;
 use tally::kind::Tally;
 
-/// What a reader says of a line.
+/// Why a line is no lawful frame.
 #[derive(Clone, Copy)]
-pub enum Verdict {
-    /// The frame is lawful.
-    Lawful,
+pub enum Unlawful {
     /// The frame is refused.
     Refused(FrameFault),
     /// The line is no hexadecimal.
     NoHexadecimal,
 }
 
-/// The verdict on the frame that a line writes.
-pub fn of_line<K: Tally>(line: &Line) -> Verdict {
-    match line.bytes() {
-        Ok(bytes) => match read::<K>(bytes) {
-            Ok(_) => Verdict::Lawful,
-            Err(fault) => Verdict::Refused(fault),
-        },
-        Err(_) => Verdict::NoHexadecimal,
+impl From<FrameFault> for Unlawful {
+    fn from(fault: FrameFault) -> Unlawful {
+        Unlawful::Refused(fault)
     }
 }
 
-impl fmt::Display for Verdict {
+impl From<NoHexadecimal> for Unlawful {
+    fn from(_why: NoHexadecimal) -> Unlawful {
+        Unlawful::NoHexadecimal
+    }
+}
+
+impl fmt::Display for Unlawful {
     fn fmt<W: fmt::Write>(&self, f: &mut fmt::Formatter<W>) -> fmt::Result {
         match self {
-            Verdict::Lawful => write!(f, "ok"),
-            Verdict::Refused(fault) => {
-                let number = fault.condition.number();
-                let place = fault.place;
-                write!(f, "{number:02x} {place:04x}")?;
+            Unlawful::Refused(fault) => {
+                write!(f, "{:02x} {:04x}", fault.condition.number(), fault.place)?;
                 match fault.condition.inside() {
                     Some(inside) => write!(f, " {inside:02x}"),
                     None => Ok(()),
                 }
             }
-            Verdict::NoHexadecimal => write!(f, "no hexadecimal"),
+            Unlawful::NoHexadecimal => write!(f, "no hexadecimal"),
         }
     }
+}
+
+/// Reads a frame in hexadecimal; the verdict is whether it is lawful.
+pub fn judge<K: Tally>(digits: &[u8]) -> Result<(), Unlawful> {
+    let mut line = Line::empty();
+    for byte in digits {
+        line.take(*byte);
+    }
+    read::<K>(line.bytes()?)?;
+    Ok(())
 }

@@ -15,48 +15,46 @@ pub struct Place<'a> {
 
 impl fmt::Display for Place<'_> {
     fn fmt<W: fmt::Write>(&self, f: &mut fmt::Formatter<W>) -> fmt::Result {
-        let name = self.name;
-        let line = self.line;
-        write!(f, "{name}:{line}")
+        write!(f, "{}:{}", self.name, self.line)
     }
 }
 
 fn print_slot(rt: &HostRuntime, slot: &SourceSlot) -> io::Result<()> {
-    let source = slot.source;
-    let source_clock = slot.slot.source_clock;
-    let destination_clock = slot.slot.destination_clock;
     println!(rt;
-        "    slot for source {source}: source clock {source_clock}, destination clock {destination_clock}"
+        "    slot for source {}: source clock {}, destination clock {}",
+        slot.source, slot.slot.source_clock, slot.slot.destination_clock
     )
 }
 
 fn print_token<K: Told + Copy>(rt: &HostRuntime, token: &Token<K>) -> io::Result<()> {
-    let source = token.source;
-    let destination = token.destination;
-    let source_clock = token.source_clock;
-    let destination_clock = token.destination_clock;
-    let tally = InWords { tally: token.tally };
     println!(rt;
-        "    token from {source} to {destination}: source clock {source_clock}, destination clock {destination_clock}, {tally}"
+        "    token from {} to {}: source clock {}, destination clock {}, {}",
+        token.source,
+        token.destination,
+        token.source_clock,
+        token.destination_clock,
+        InWords { tally: token.tally }
     )
 }
 
 fn print_entry<K: Told + Copy>(rt: &HostRuntime, entry: &Entry<K>) -> io::Result<()> {
-    let number = entry.number;
-    let version = entry.version;
-    let tally = InWords { tally: entry.tally };
-    println!(rt; "    entry {number}: version {version}, {tally}")
+    println!(rt;
+        "    entry {}: version {}, {}",
+        entry.number,
+        entry.version,
+        InWords { tally: entry.tally }
+    )
 }
 
 fn print_header(rt: &HostRuntime, place: &Place<'_>, frame: &Received<'_>) -> io::Result<()> {
-    let sender = frame.sender;
-    let tier = frame.tier;
-    let addressee = frame.addressee;
-    let held = if frame.holds { "something" } else { "nothing" };
-    let source_clock = frame.source_clock;
-    let destination_clock = frame.destination_clock;
     println!(rt;
-        "{place}: frame from {sender}, tier {tier}, to {addressee}: holds {held}, source clock {source_clock}, destination clock {destination_clock}"
+        "{place}: frame from {}, tier {}, to {}: holds {}, source clock {}, destination clock {}",
+        frame.sender,
+        frame.tier,
+        frame.addressee,
+        if frame.holds { "something" } else { "nothing" },
+        frame.source_clock,
+        frame.destination_clock
     )
 }
 

@@ -1,27 +1,43 @@
 //! The conditions of a lawful frame, in plain words.
+use movements::fault::PairFault;
 use protocol::refusal::{Condition, FrameFault};
 use std::fmt;
 
-/// What a condition is about, by its number.
-pub fn subject(number: u8) -> &'static str {
-    match number {
-        20 => "length",
-        21 => "edition",
-        22 => "kind",
-        23 => "sender, addressee and tier",
-        24 => "whether the sender holds something",
-        25 => "the sender's clocks",
-        26 => "counts",
-        27 => "length by the counts",
-        28 => "numbers of an item",
-        29 => "clocks of an item",
-        30 => "tally of an item",
-        31 => "the sender's own entry",
-        _ => "unknown",
+/// The conditions in the order of their numbers; that of a tally stands once, whatever the tally's own fault.
+pub const CONDITIONS: [Condition; 12] = [
+    Condition::Length,
+    Condition::Edition,
+    Condition::Kind,
+    Condition::Parties,
+    Condition::Holding,
+    Condition::Clock,
+    Condition::Counts,
+    Condition::CountedLength,
+    Condition::Numbers,
+    Condition::ItemClock,
+    Condition::Tally(0),
+    Condition::OwnEntry,
+];
+
+/// What a condition is about.
+pub fn subject(condition: &Condition) -> &'static str {
+    match condition {
+        Condition::Length => "length",
+        Condition::Edition => "edition",
+        Condition::Kind => "kind",
+        Condition::Parties => "sender, addressee and tier",
+        Condition::Holding => "whether the sender holds something",
+        Condition::Clock => "the sender's clocks",
+        Condition::Counts => "counts",
+        Condition::CountedLength => "length by the counts",
+        Condition::Numbers => "numbers of an item",
+        Condition::ItemClock => "clocks of an item",
+        Condition::Tally(_) => "tally of an item",
+        Condition::OwnEntry => "the sender's own entry",
     }
 }
 
-// Which of sender, addressee and tier, by the place.
+// Which of sender, addressee and tier fails: a refusal tells it by the place of the byte alone.
 fn party(place: usize) -> &'static str {
     match place {
         2 => "the sender's number is not from 1 to 16",
@@ -30,7 +46,7 @@ fn party(place: usize) -> &'static str {
     }
 }
 
-// Which of the counts, by the place.
+// Which of the counts fails: a refusal tells it by the place of the byte alone.
 fn count(place: usize) -> &'static str {
     match place {
         14 => "there are more than 15 slots",
@@ -39,30 +55,24 @@ fn count(place: usize) -> &'static str {
     }
 }
 
-// What is wrong with a tally, by the number of its fault.
-fn tally_fault(number: u8) -> &'static str {
-    match number {
-        40 => "of a key and its count, one is 0 and the other is not",
-        41 => "a used pair stands after an unused one",
-        42 => "the keys do not rise",
-        _ => "it is not lawful",
-    }
+// The fault of a movements tally that has this number; tallies of the other kinds have none.
+fn pair_fault(number: u8) -> Option<PairFault> {
+    [
+        PairFault::HalfUsed,
+        PairFault::AfterUnused,
+        PairFault::NotRising,
+    ]
+    .into_iter()
+    .find(|fault| fault.number() == number)
 }
 
-// What a condition asks, where the place does not tell more.
-fn asked(condition: &Condition) -> &'static str {
-    match condition {
-        Condition::Length => "a frame has 17 to 1836 bytes",
-        Condition::Edition => "the edition is not 1",
-        Condition::Kind => "the frame is of another kind",
-        Condition::Holding => "the byte for whether the sender holds something is above 1",
-        Condition::Clock => "a clock of the sender is above 1000000000",
-        Condition::CountedLength => "the frame is not as long as its counts say",
-        Condition::Numbers =>
-            "an item's numbers are no nodes' numbers that may stand there, or do not rise",
-        Condition::ItemClock => "a clock or a version of an item is above 1000000000",
-        Condition::OwnEntry => "a frame of tier 0 lacks the entry of its sender",
-        _ => "unknown",
+// What is wrong with a tally, by the number of its fault.
+fn tally_fault(number: u8) -> &'static str {
+    match pair_fault(number) {
+        Some(PairFault::HalfUsed) => "of a key and its count, one is 0 and the other is not",
+        Some(PairFault::AfterUnused) => "a used pair stands after an unused one",
+        Some(PairFault::NotRising) => "the keys do not rise",
+        None => "it is not lawful",
     }
 }
 
@@ -75,13 +85,28 @@ pub struct Meaning {
 impl fmt::Display for Meaning {
     fn fmt<W: fmt::Write>(&self, f: &mut fmt::Formatter<W>) -> fmt::Result {
         match self.fault.condition {
+            Condition::Length => f.write_str("a frame has 17 to 1836 bytes"),
+            Condition::Edition => f.write_str("the edition is not 1"),
+            Condition::Kind => f.write_str("the frame is of another kind"),
             Condition::Parties => f.write_str(party(self.fault.place)),
-            Condition::Counts => f.write_str(count(self.fault.place)),
-            Condition::Tally(number) => {
-                let why = tally_fault(number);
-                write!(f, "the tally of an item has fault {number}: {why}")
+            Condition::Holding => {
+                f.write_str("the byte for whether the sender holds something is above 1")
             }
-            other => f.write_str(asked(&other)),
+            Condition::Clock => f.write_str("a clock of the sender is above 1000000000"),
+            Condition::Counts => f.write_str(count(self.fault.place)),
+            Condition::CountedLength => f.write_str("the frame is not as long as its counts say"),
+            Condition::Numbers => f.write_str(
+                "an item's numbers are no nodes' numbers that may stand there, or do not rise",
+            ),
+            Condition::ItemClock => {
+                f.write_str("a clock or a version of an item is above 1000000000")
+            }
+            Condition::Tally(number) => write!(
+                f,
+                "the tally of an item has fault {number}: {}",
+                tally_fault(number)
+            ),
+            Condition::OwnEntry => f.write_str("a frame of tier 0 lacks the entry of its sender"),
         }
     }
 }

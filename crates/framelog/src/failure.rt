@@ -1,52 +1,22 @@
-use std::alloc::{AllocError, AllocFailed};
-use std::{fmt, io};
+use std::alloc::AllocError;
+use std::io;
+use thiserror::Error;
 
-/// Why the program ends with status 1.
-#[derive(Debug, Drop)]
+/// Why the program ends with status 1. (An `anyhow::Error` would cut a long word short.)
+#[derive(Debug, Drop, Error)]
 pub enum Failure {
-    /// No kind was given.
+    #[error("no kind is given; see --help")]
     NoKind,
-    /// The first word names no kind.
+    #[error("{0} is no kind; take vehicles, queues or movements")]
     UnknownKind(String),
-    /// There is no such option.
+    #[error("there is no option {0}; see --help")]
     UnknownOption(String),
     /// A file was not read to its end; its name was printed.
+    #[error("not every log was read")]
     Unread,
-    /// There is no memory for the arguments.
-    Memory,
+    #[error("there is no memory left")]
+    Memory(#[from(alloc)] AllocError),
     /// Writing or the arguments failed.
-    Broken(io::Error),
-}
-
-impl fmt::Display for Failure {
-    fn fmt<W: fmt::Write>(&self, f: &mut fmt::Formatter<W>) -> fmt::Result {
-        match self {
-            Failure::NoKind => write!(f, "no kind is given; see --help"),
-            Failure::UnknownKind(word) => {
-                write!(f, "{word} is no kind; take vehicles, queues or movements")
-            }
-            Failure::UnknownOption(word) => write!(f, "there is no option {word}; see --help"),
-            Failure::Unread => write!(f, "not every log was read"),
-            Failure::Memory => write!(f, "there is no memory left"),
-            Failure::Broken(error) => write!(f, "{error}"),
-        }
-    }
-}
-
-impl From<AllocError> for Failure {
-    fn from(_error: AllocError) -> Failure {
-        Failure::Memory
-    }
-}
-
-impl<T: Drop> From<AllocFailed<T>> for Failure {
-    fn from(_refused: AllocFailed<T>) -> Failure {
-        Failure::Memory
-    }
-}
-
-impl From<io::Error> for Failure {
-    fn from(error: io::Error) -> Failure {
-        Failure::Broken(error)
-    }
+    #[error(transparent)]
+    Broken(#[from] io::Error),
 }

@@ -28,61 +28,55 @@ pub enum Kind {
 
 /// What the arguments ask for.
 #[derive(Drop)]
-pub struct Request {
-    pub help: bool,
+pub enum Request {
+    /// What the program does.
+    Help,
+    /// An account of logs.
+    Account(Account),
+}
+
+/// The account that is asked for: of these files, or where none is named of standard input.
+#[derive(Drop)]
+pub struct Account {
+    pub kind: Kind,
     pub summary_only: bool,
-    pub kind: Option<Kind>,
     pub files: Vec<String>,
 }
 
-fn kind_named(word: &str) -> Option<Kind> {
-    match word {
-        "vehicles" => Some(Kind::Vehicles),
-        "queues" => Some(Kind::Queues),
-        "movements" => Some(Kind::Movements),
-        _ => None,
-    }
-}
+impl TryFrom<String> for Kind {
+    type Error = Failure;
 
-impl Request {
-    // Takes the next word: an option, the kind, or a file.
-    fn take(&mut self, word: String) -> Result<(), Failure> {
+    fn try_from(word: String) -> Result<Kind, Failure> {
         match word.as_str() {
-            "--help" => {
-                self.help = true;
-                return Ok(());
-            }
-            "--summary" => {
-                self.summary_only = true;
-                return Ok(());
-            }
-            _ => {}
+            "vehicles" => Ok(Kind::Vehicles),
+            "queues" => Ok(Kind::Queues),
+            "movements" => Ok(Kind::Movements),
+            _ => Err(Failure::UnknownKind(word)),
         }
-        if word.as_str().starts_with("--") {
-            return Err(Failure::UnknownOption(word));
-        }
-        if self.kind.is_some() {
-            self.files.push(word)?;
-            return Ok(());
-        }
-        self.kind = kind_named(word.as_str());
-        if self.kind.is_none() {
-            return Err(Failure::UnknownKind(word));
-        }
-        Ok(())
     }
 }
 
-/// The request that the words after the program's name make.
+/// The request that the words after the program's name make. A word that cannot be is refused beside `--help` too.
 pub fn of_words(heap: Global, words: Args) -> Result<Request, Failure> {
-    let mut request = Request {
-        help: false,
-        summary_only: false,
-        kind: None,
-        files: Vec::new(heap),
-    };
+    let mut help = false;
+    let mut summary_only = false;
+    let mut kind = None;
+    let mut files = Vec::new(heap);
     for word in words.skip(1) {
-        request.take(word)?;
+        match word.as_str() {
+            "--help" => help = true,
+            "--summary" => summary_only = true,
+            option if option.starts_with("--") => return Err(Failure::UnknownOption(word)),
+            _ if kind.is_some() => files.push(word)?,
+            _ => kind = Some(Kind::try_from(word)?),
+        }
     }
-    Ok(request)
+    if help {
+        return Ok(Request::Help);
+    }
+    Ok(Request::Account(Account {
+        kind: kind.ok_or(Failure::NoKind)?,
+        summary_only,
+        files,
+    }))
 }

@@ -1,7 +1,6 @@
 //! Logs read as streams, line by line.
 use crate::account::{Place, print_frame};
 use crate::conditions::Meaning;
-use crate::failure::Failure;
 use frame::reader::{item_at, item_count, read};
 use frame::received::Received;
 use frame_logs::counts::Clocks;
@@ -15,14 +14,33 @@ use std::io;
 use std::io::Read;
 use tally::kind::Tally;
 
-/// What the logs showed so far, and whether each line is told in full.
+/// What the logs showed so far.
 #[derive(Drop)]
 pub struct Scan {
-    pub in_full: bool,
+    /// Whether each line is told in full.
+    in_full: bool,
+    /// Whether each log so far was read to its end.
+    pub all_read: bool,
     pub summary: Summary,
 }
 
+/// The line of a log that is being read.
+#[derive(Drop)]
+struct CurrentLine<'a> {
+    place: Place<'a>,
+    text: Line,
+}
+
 impl Scan {
+    /// Of no log.
+    pub fn new(in_full: bool) -> Scan {
+        Scan {
+            in_full,
+            all_read: true,
+            summary: Summary::blank(),
+        }
+    }
+
     fn no_hexadecimal(
         &mut self,
         rt: &HostRuntime,
@@ -44,10 +62,12 @@ impl Scan {
     ) -> io::Result<()> {
         self.summary.add_refusal(&fault.condition);
         if self.in_full {
-            let number = fault.condition.number();
-            let byte = fault.place;
-            let meaning = Meaning { fault };
-            println!(rt; "{place}: refused by condition {number} at byte {byte}: {meaning}")?;
+            println!(rt;
+                "{place}: refused by condition {} at byte {}: {}",
+                fault.condition.number(),
+                fault.place,
+                Meaning { fault }
+            )?;
         }
         Ok(())
     }
@@ -78,16 +98,15 @@ impl Scan {
     fn end_line<K: Tally + Told>(
         &mut self,
         rt: &HostRuntime,
-        place: &Place<'_>,
-        line: &Line,
+        current: &CurrentLine<'_>,
     ) -> io::Result<()> {
-        match line.bytes() {
+        match current.text.bytes() {
             Ok([]) => Ok(()),
             Ok(bytes) => match read::<K>(bytes) {
-                Ok(frame) => self.accepted::<K>(rt, place, &frame),
-                Err(fault) => self.refused(rt, place, fault),
+                Ok(frame) => self.accepted::<K>(rt, &current.place, &frame),
+                Err(fault) => self.refused(rt, &current.place, fault),
             },
-            Err(why) => self.no_hexadecimal(rt, place, why),
+            Err(why) => self.no_hexadecimal(rt, &current.place, why),
         }
     }
 
@@ -96,42 +115,46 @@ impl Scan {
         &mut self,
         rt: &HostRuntime,
         chunk: &[u8],
-        place: &mut Place<'_>,
-        line: &mut Line,
+        current: &mut CurrentLine<'_>,
     ) -> io::Result<()> {
         for byte in chunk {
             if *byte == b'\n' {
-                self.end_line::<K>(rt, place, line)?;
-                place.line = place.line.saturating_add(1);
-                *line = Line::empty();
+                self.end_line::<K>(rt, current)?;
+                current.place.line = current.place.line.saturating_add(1);
+                current.text = Line::empty();
             } else {
-                line.take(*byte);
+                current.text.take(*byte);
             }
         }
         Ok(())
     }
 
-    /// Reads a log to its end. Where reading fails the log is named, and the answer is that it was not read.
+    /// Names a log that is not read to its end. The logs after it are still read.
+    pub fn pass_over(&mut self, rt: &HostRuntime, name: &str, error: &io::Error) -> io::Result<()> {
+        self.all_read = false;
+        eprintln!(rt; "framelog: {name}: {error}")
+    }
+
+    /// Reads a log to its end, or passes over what cannot be read of it.
     pub fn read_all<K: Tally + Told, R: Read>(
         &mut self,
         rt: &HostRuntime,
         name: &str,
         log: &mut R,
-    ) -> Result<bool, Failure> {
-        let mut place = Place { name, line: 1 };
-        let mut line = Line::empty();
+    ) -> io::Result<()> {
+        let mut current = CurrentLine {
+            place: Place { name, line: 1 },
+            text: Line::empty(),
+        };
         let mut buffer = [0u8; 4096];
+        // As good as endless: a loop with no end would need the handle `Wait`.
         for _ in 0..u64::MAX {
             match log.read(&mut buffer) {
                 Ok(0) => break,
-                Ok(count) => self.take_chunk::<K>(rt, &buffer[0..count], &mut place, &mut line)?,
-                Err(error) => {
-                    eprintln!(rt; "framelog: {name}: {error}")?;
-                    return Ok(false);
-                }
+                Ok(count) => self.take_chunk::<K>(rt, &buffer[..count], &mut current)?,
+                Err(error) => return self.pass_over(rt, name, &error),
             }
         }
-        self.end_line::<K>(rt, &place, &line)?;
-        Ok(true)
+        self.end_line::<K>(rt, &current)
     }
 }
