@@ -55,24 +55,12 @@ fn count(place: usize) -> &'static str {
     }
 }
 
-// The fault of a movements tally that has this number; tallies of the other kinds have none.
-fn pair_fault(number: u8) -> Option<PairFault> {
-    [
-        PairFault::HalfUsed,
-        PairFault::AfterUnused,
-        PairFault::NotRising,
-    ]
-    .into_iter()
-    .find(|fault| fault.number() == number)
-}
-
-// What is wrong with a tally, by the number of its fault.
-fn tally_fault(number: u8) -> &'static str {
-    match pair_fault(number) {
-        Some(PairFault::HalfUsed) => "of a key and its count, one is 0 and the other is not",
-        Some(PairFault::AfterUnused) => "a used pair stands after an unused one",
-        Some(PairFault::NotRising) => "the keys do not rise",
-        None => "it is not lawful",
+// What is wrong with a tally, by the number of its fault: those of movements have one, and tallies of the other kinds have none.
+fn write_tally_fault<W: fmt::Write>(f: &mut fmt::Formatter<W>, number: u8) -> fmt::Result {
+    write!(f, "the tally of an item has fault {number}: ")?;
+    match PairFault::try_from(number) {
+        Ok(fault) => write!(f, "{fault}"),
+        Err(_) => f.write_str("it is not lawful"),
     }
 }
 
@@ -101,11 +89,7 @@ impl fmt::Display for Meaning {
             Condition::ItemClock => {
                 f.write_str("a clock or a version of an item is above 1000000000")
             }
-            Condition::Tally(number) => write!(
-                f,
-                "the tally of an item has fault {number}: {}",
-                tally_fault(number)
-            ),
+            Condition::Tally(number) => write_tally_fault(f, number),
             Condition::OwnEntry => f.write_str("a frame of tier 0 lacks the entry of its sender"),
         }
     }
