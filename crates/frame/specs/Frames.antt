@@ -108,11 +108,14 @@ module _ {V : Type 0} (kind : Kind V) where
   opening_fault b =
       unless (nat_le frame_bytes_min (length b) && nat_le (length b) frame_bytes_max) condition.Length 0 (unless (slice_index b 0 == 1) condition.Edition 0 (unless (slice_index b 1 == kind.code) condition.Kind 1 None))
 
-  abbrev pub counts_fault : List ℕ → Option FrameFault
-  counts_fault b =
+  abbrev pub counted_fault : List ℕ → ℕ → Option FrameFault
+  counted_fault b long =
       unless (nat_le (slice_index b 14) 15) condition.Counts 14
       (unless (nat_le (slice_index b 15) 8) condition.Counts 15
-      (unless (entries_allowed (slice_index b 3) (slice_index b 16)) condition.Counts 16 (unless (length b == counted_length b) condition.CountedLength 14 None)))
+      (unless (entries_allowed (slice_index b 3) (slice_index b 16)) condition.Counts 16 (unless (long == counted_length b) condition.CountedLength 14 None)))
+
+  abbrev pub counts_fault : List ℕ → Option FrameFault
+  counts_fault b = counted_fault b (length b)
 
   unfoldable pub header_fault : List ℕ → Option FrameFault
   header_fault b = or_else (opening_fault b) (or_else (parties_fault b) (or_else (state_fault b) (counts_fault b)))

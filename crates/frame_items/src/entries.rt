@@ -31,8 +31,8 @@ impl<K: Tally> Item for Entry<K> {
         let number = bytes[0];
         let may_follow = before < u16::from(number) && number <= NODES_MAX;
         require(may_follow, Condition::Numbers, place)?;
-        let version = u32::read_at(bytes, 1);
-        require(version <= CLOCK_MAX, Condition::ItemClock, place + 1)?;
+        let version_within = u32::read_at(bytes, 1) <= CLOCK_MAX;
+        require(version_within, Condition::ItemClock, place + 1)?;
         check_tally::<K>(bytes, 5, place)
     }
 

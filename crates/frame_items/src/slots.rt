@@ -29,14 +29,10 @@ impl Item for SourceSlot {
         let source = bytes[0];
         let may_follow = before < u16::from(source) && source <= NODES_MAX && source != sender;
         require(may_follow, Condition::Numbers, place)?;
-        let source_clock = u32::read_at(bytes, 1);
-        require(source_clock <= CLOCK_MAX, Condition::ItemClock, place + 1)?;
-        let destination_clock = u32::read_at(bytes, 5);
-        require(
-            destination_clock <= CLOCK_MAX,
-            Condition::ItemClock,
-            place + 5,
-        )
+        let source_within = u32::read_at(bytes, 1) <= CLOCK_MAX;
+        require(source_within, Condition::ItemClock, place + 1)?;
+        let destination_within = u32::read_at(bytes, 5) <= CLOCK_MAX;
+        require(destination_within, Condition::ItemClock, place + 5)
     }
 
     fn shown(bytes: &[u8]) -> SourceSlot {

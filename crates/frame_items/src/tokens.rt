@@ -49,14 +49,10 @@ impl<K: Tally> Item for Token<K> {
     fn check(bytes: &[u8], _sender: u8, before: u16, place: usize) -> Result<(), FrameFault> {
         let may_follow = pair_may_follow(before, bytes[0], bytes[1]);
         require(may_follow, Condition::Numbers, place)?;
-        let source_clock = u32::read_at(bytes, 2);
-        require(source_clock <= CLOCK_MAX, Condition::ItemClock, place + 2)?;
-        let destination_clock = u32::read_at(bytes, 6);
-        require(
-            destination_clock <= CLOCK_MAX,
-            Condition::ItemClock,
-            place + 6,
-        )?;
+        let source_within = u32::read_at(bytes, 2) <= CLOCK_MAX;
+        require(source_within, Condition::ItemClock, place + 2)?;
+        let destination_within = u32::read_at(bytes, 6) <= CLOCK_MAX;
+        require(destination_within, Condition::ItemClock, place + 6)?;
         check_tally::<K>(bytes, 10, place)
     }
 
