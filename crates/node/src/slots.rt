@@ -56,7 +56,7 @@ pub fn make_slot<K: Tally>(node: &mut Node, frame: &Received<'_>)
     if !frame.holds {
         return;
     }
-    if let Some(_) = node.slots.get(frame.sender) {
+    if node.slots.get(frame.sender).is_some() {
         return;
     }
     let slot = Slot {
