@@ -78,6 +78,10 @@ module _ {V : Type 0} (kind : Kind V) where
   abbrev pub entries_place : List ℕ → ℕ
   entries_place b = tokens_place b + slice_index b 15 * (10 + kind.width)
 
+  -- the length of a frame with so many slots, tokens and entries
+  abbrev pub length_with : ℕ → ℕ → ℕ → ℕ
+  length_with slot-count token-count entry-count = 17 + slot-count * 9 + token-count * (10 + kind.width) + entry-count * (5 + kind.width)
+
   -- the length that the counts give
   abbrev pub counted_length : List ℕ → ℕ
   counted_length b = entries_place b + slice_index b 16 * (5 + kind.width)

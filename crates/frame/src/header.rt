@@ -2,7 +2,7 @@
 ghost use Rattle.std.specs.Prelude.{◌≡◌, ◌+◌, ◌*◌, take, IfOk};
 ghost use Rattle.std.specs.Result.{result_err};
 ghost use Rattle.frame_items.specs.Items.{number as is_number};
-ghost use Rattle.frame.specs.Frames.{entries_allowed, opening_fault, parties_fault, state_fault, counted_fault, counted_length, header_fault};
+ghost use Rattle.frame.specs.Frames.{entries_allowed, opening_fault, parties_fault, state_fault, counted_fault, length_with, header_fault};
 
 use big_endian::BigEndian;
 use frame_items::require::require;
@@ -83,7 +83,7 @@ fn check_counts<K: Tally>(header: &[u8; 17], length: usize) -> Result<(), FrameF
 
 /// The length of a frame with so many slots, tokens and entries.
 pub fn counted_length<K: Tally>(slots: u8, tokens: u8, entries: u8) -> usize
-    ensures { result ≡ 17 + slots * 9 + tokens * (10 + K.kind.width) + entries * (5 + K.kind.width) }
+    ensures { result ≡ length_with K.kind slots tokens entries }
 {
     let width = K::width();
     17 + usize::from(slots) * 9

@@ -3,7 +3,7 @@ ghost use Rattle.std.specs.Prelude.{◌≡◌, ℕ, ◌+◌, ◌*◌, ◌<◌, �
 ghost use Rattle.frame_items.specs.Format.{row_bytes};
 ghost use Rattle.frame_items.specs.Items.{slots, tokens, entries};
 ghost use Rattle.frame.specs.Frames.{header_of, Exact};
-ghost use Rattle.frame.specs.Written.{carried, Written};
+ghost use Rattle.frame.specs.Written.{carried, written_length, Written};
 
 use crate::header::{EDITION, counted_length};
 use crate::outgoing::{Outgoing, Unwritten};
@@ -31,14 +31,13 @@ impl Header {
     {
         let [s0, s1, s2, s3] = self.source_clock.to_be_bytes();
         let [d0, d1, d2, d3] = self.destination_clock.to_be_bytes();
-        let holds = if self.holds { 1 } else { 0 };
         [
             EDITION,
             K::code(),
             self.sender,
             self.tier,
             self.addressee,
-            holds,
+            u8::from(self.holds),
             s0,
             s1,
             s2,
@@ -56,11 +55,11 @@ impl Header {
 
 // Writes a header and the lists behind it, and answers the length of the frame.
 fn write_all<K: Tally>(header: &[u8; 17], frame: &Outgoing<'_, K>, out: &mut [u8]) -> usize
-    requires { 17 + length frame.now.slots.now * 9 + length frame.now.tokens.now * (10 + K.kind.width) + length frame.now.entries.now * (5 + K.kind.width) ≤ length out.old }
-    ensures place { result ≡ 17 + length frame.now.slots.now * 9 + length frame.now.tokens.now * (10 + K.kind.width) + length frame.now.entries.now * (5 + K.kind.width) }
+    requires { written_length K.kind frame.now ≤ length out.old }
+    ensures place { result ≡ written_length K.kind frame.now }
     ensures bytes { out.new ≡ (header.now ++ (row_bytes (slots 0) frame.now.slots.now ++ (row_bytes (tokens K.kind) frame.now.tokens.now ++ row_bytes (entries K.kind) frame.now.entries.now))) ++ drop result out.old }
 {
-    out[0..17].copy_from_slice(&header[0..17]);
+    out[..17].copy_from_slice(header);
     let tokens_place = write_row(frame.slots, out, 17);
     let entries_place = write_row(frame.tokens, out, tokens_place);
     write_row(frame.entries, out, entries_place)
@@ -77,6 +76,7 @@ pub fn write<K: Tally>(frame: &Outgoing<'_, K>, out: &mut [u8]) -> Result<usize,
     if slots > 15 || tokens > 8 || entries > 4 {
         return Err(Unwritten::TooMany);
     }
+    // Each count is at most 15 here, so the casts lose nothing.
     let header = Header {
         sender: frame.sender,
         tier: frame.tier,
