@@ -64,12 +64,9 @@ module _ {V : Type 0} (kind : Kind V) where
     pub own_entry : f.tier ≡ 0 → has_entry f.sender f.entry_list ≡ true
 
   -- its writing: the header, with the counts of its lists, and then the lists
-  abbrev pub header_of : ℕ → ℕ → ℕ → Bool → ℕ → ℕ → ℕ → ℕ → ℕ → List ℕ
-  header_of sender tier addressee holds source_clock destination_clock slot-count token-count entry-count =
-      1 ∷ kind.code ∷ sender ∷ tier ∷ addressee ∷ cond holds 1 0 ∷ (four_bytes source_clock ++ (four_bytes destination_clock ++ (slot-count ∷ token-count ∷ entry-count ∷ [])))
-
   abbrev pub header_bytes : Frame V → List ℕ
-  header_bytes f = header_of f.sender f.tier f.addressee f.holds f.source_clock f.destination_clock (length f.slot_list) (length f.token_list) (length f.entry_list)
+  header_bytes f =
+      1 ∷ kind.code ∷ f.sender ∷ f.tier ∷ f.addressee ∷ cond f.holds 1 0 ∷ (four_bytes f.source_clock ++ (four_bytes f.destination_clock ++ (length f.slot_list ∷ length f.token_list ∷ length f.entry_list ∷ [])))
 
   unfoldable pub frame_bytes : Frame V → List ℕ
   frame_bytes f = header_bytes f ++ (row_bytes (slots f.sender) f.slot_list ++ (row_bytes (tokens kind) f.token_list ++ row_bytes (entries kind) f.entry_list))
