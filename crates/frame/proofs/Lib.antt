@@ -1,1 +1,3 @@
 pub mod Exactly
+pub mod Front
+pub mod Lying

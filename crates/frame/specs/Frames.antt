@@ -64,12 +64,9 @@ module _ {V : Type 0} (kind : Kind V) where
     pub own_entry : f.tier ≡ 0 → has_entry f.sender f.entry_list ≡ true
 
   -- its writing: the header, with the counts of its lists, and then the lists
-  abbrev pub header_of : ℕ → ℕ → ℕ → Bool → ℕ → ℕ → ℕ → ℕ → ℕ → List ℕ
-  header_of sender tier addressee holds source_clock destination_clock slot-count token-count entry-count =
-      1 ∷ kind.code ∷ sender ∷ tier ∷ addressee ∷ cond holds 1 0 ∷ (four_bytes source_clock ++ (four_bytes destination_clock ++ (slot-count ∷ token-count ∷ entry-count ∷ [])))
-
   abbrev pub header_bytes : Frame V → List ℕ
-  header_bytes f = header_of f.sender f.tier f.addressee f.holds f.source_clock f.destination_clock (length f.slot_list) (length f.token_list) (length f.entry_list)
+  header_bytes f =
+      1 ∷ kind.code ∷ f.sender ∷ f.tier ∷ f.addressee ∷ cond f.holds 1 0 ∷ (four_bytes f.source_clock ++ (four_bytes f.destination_clock ++ (length f.slot_list ∷ length f.token_list ∷ length f.entry_list ∷ [])))
 
   unfoldable pub frame_bytes : Frame V → List ℕ
   frame_bytes f = header_bytes f ++ (row_bytes (slots f.sender) f.slot_list ++ (row_bytes (tokens kind) f.token_list ++ row_bytes (entries kind) f.entry_list))
@@ -77,6 +74,10 @@ module _ {V : Type 0} (kind : Kind V) where
   -- where the entries begin
   abbrev pub entries_place : List ℕ → ℕ
   entries_place b = tokens_place b + slice_index b 15 * (10 + kind.width)
+
+  -- the length of a frame with so many slots, tokens and entries
+  abbrev pub length_with : ℕ → ℕ → ℕ → ℕ
+  length_with slot-count token-count entry-count = 17 + slot-count * 9 + token-count * (10 + kind.width) + entry-count * (5 + kind.width)
 
   -- the length that the counts give
   abbrev pub counted_length : List ℕ → ℕ
@@ -108,11 +109,14 @@ module _ {V : Type 0} (kind : Kind V) where
   opening_fault b =
       unless (nat_le frame_bytes_min (length b) && nat_le (length b) frame_bytes_max) condition.Length 0 (unless (slice_index b 0 == 1) condition.Edition 0 (unless (slice_index b 1 == kind.code) condition.Kind 1 None))
 
-  abbrev pub counts_fault : List ℕ → Option FrameFault
-  counts_fault b =
+  abbrev pub counted_fault : List ℕ → ℕ → Option FrameFault
+  counted_fault b long =
       unless (nat_le (slice_index b 14) 15) condition.Counts 14
       (unless (nat_le (slice_index b 15) 8) condition.Counts 15
-      (unless (entries_allowed (slice_index b 3) (slice_index b 16)) condition.Counts 16 (unless (length b == counted_length b) condition.CountedLength 14 None)))
+      (unless (entries_allowed (slice_index b 3) (slice_index b 16)) condition.Counts 16 (unless (long == counted_length b) condition.CountedLength 14 None)))
+
+  abbrev pub counts_fault : List ℕ → Option FrameFault
+  counts_fault b = counted_fault b (length b)
 
   unfoldable pub header_fault : List ℕ → Option FrameFault
   header_fault b = or_else (opening_fault b) (or_else (parties_fault b) (or_else (state_fault b) (counts_fault b)))

@@ -1,7 +1,7 @@
 -- The frame that the writer is given, and what it leaves in the buffer.
 use Rattle.std.specs.Prelude.{◌≡◌, ℕ, ◌<◌, ◌≤◌, List, ◌++◌, length, drop, Ok, Err, Result}
 use Rattle.tally.specs.Kind.{Kind}
-use Rattle.frame.specs.Frames.{Frame, frame_bytes}
+use Rattle.frame.specs.Frames.{Frame, length_with, frame_bytes}
 use Rattle.frame.specs.declared.outgoing.Outgoing.{Outgoing}
 use Rattle.frame.specs.declared.outgoing.Unwritten.{Unwritten}
 use Rattle.frame.specs.declared.outgoing.Unwritten.TheVariants.{TooMany, TooShort}
@@ -19,6 +19,10 @@ carried f = record {
   token_list = f.tokens.now;
   entry_list = f.entries.now;
 }
+
+-- the length of its writing
+abbrev pub written_length : {V : Type 0} → Kind V → Outgoing V → ℕ
+written_length kind f = length_with kind (length f.slots.now) (length f.tokens.now) (length f.entries.now)
 
 -- no list is longer than a lawful frame's
 pub record Few {V : Type 0} (f : Frame V) : Type 0 where

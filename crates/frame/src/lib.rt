@@ -2,6 +2,7 @@
 #![tactic(auto)]
 
 pub mod header;
+pub mod items;
 pub mod outgoing;
 pub mod reader;
 pub mod received;

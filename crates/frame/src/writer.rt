@@ -2,65 +2,49 @@
 ghost use Rattle.std.specs.Prelude.{◌≡◌, ℕ, ◌+◌, ◌*◌, ◌<◌, ◌≤◌, ◌++◌, length, drop};
 ghost use Rattle.frame_items.specs.Format.{row_bytes};
 ghost use Rattle.frame_items.specs.Items.{slots, tokens, entries};
-ghost use Rattle.frame.specs.Frames.{header_of, Exact};
-ghost use Rattle.frame.specs.Written.{carried, Written};
+ghost use Rattle.frame.specs.Frames.{header_bytes, Exact};
+ghost use Rattle.frame.specs.Written.{carried, written_length, Few, Written};
 
 use crate::header::{EDITION, counted_length};
 use crate::outgoing::{Outgoing, Unwritten};
 use frame_items::rows::write_row;
 use tally::kind::Tally;
 
-/// The first bytes of a frame, with the counts of its lists.
-#[derive(Clone, Copy)]
-pub struct Header {
-    pub sender: u8,
-    pub tier: u8,
-    pub addressee: u8,
-    pub holds: bool,
-    pub source_clock: u32,
-    pub destination_clock: u32,
-    pub slots: u8,
-    pub tokens: u8,
-    pub entries: u8,
-}
-
-impl Header {
-    /// The header as bytes.
-    pub fn bytes<K: Tally>(&self) -> [u8; 17]
-        ensures { result ≡ header_of K.kind self.now.sender self.now.tier self.now.addressee self.now.holds self.now.source_clock self.now.destination_clock self.now.slots self.now.tokens self.now.entries }
-    {
-        let [s0, s1, s2, s3] = self.source_clock.to_be_bytes();
-        let [d0, d1, d2, d3] = self.destination_clock.to_be_bytes();
-        let holds = if self.holds { 1 } else { 0 };
-        [
-            EDITION,
-            K::code(),
-            self.sender,
-            self.tier,
-            self.addressee,
-            holds,
-            s0,
-            s1,
-            s2,
-            s3,
-            d0,
-            d1,
-            d2,
-            d3,
-            self.slots,
-            self.tokens,
-            self.entries,
-        ]
-    }
+// The first bytes of a frame, with the counts of its lists: in the order of the format, one by one.
+fn header_bytes<K: Tally>(frame: &Outgoing<'_, K>) -> [u8; 17]
+    requires { Few (carried frame.now) }
+    ensures { result ≡ header_bytes K.kind (carried frame.now) }
+{
+    let [s0, s1, s2, s3] = frame.source_clock.to_be_bytes();
+    let [d0, d1, d2, d3] = frame.destination_clock.to_be_bytes();
+    [
+        EDITION,
+        K::code(),
+        frame.sender,
+        frame.tier,
+        frame.addressee,
+        u8::from(frame.holds),
+        s0,
+        s1,
+        s2,
+        s3,
+        d0,
+        d1,
+        d2,
+        d3,
+        frame.slots.len() as u8,
+        frame.tokens.len() as u8,
+        frame.entries.len() as u8,
+    ]
 }
 
 // Writes a header and the lists behind it, and answers the length of the frame.
 fn write_all<K: Tally>(header: &[u8; 17], frame: &Outgoing<'_, K>, out: &mut [u8]) -> usize
-    requires { 17 + length frame.now.slots.now * 9 + length frame.now.tokens.now * (10 + K.kind.width) + length frame.now.entries.now * (5 + K.kind.width) ≤ length out.old }
-    ensures place { result ≡ 17 + length frame.now.slots.now * 9 + length frame.now.tokens.now * (10 + K.kind.width) + length frame.now.entries.now * (5 + K.kind.width) }
+    requires { written_length K.kind frame.now ≤ length out.old }
+    ensures place { result ≡ written_length K.kind frame.now }
     ensures bytes { out.new ≡ (header.now ++ (row_bytes (slots 0) frame.now.slots.now ++ (row_bytes (tokens K.kind) frame.now.tokens.now ++ row_bytes (entries K.kind) frame.now.entries.now))) ++ drop result out.old }
 {
-    out[0..17].copy_from_slice(&header[0..17]);
+    out[..17].copy_from_slice(header);
     let tokens_place = write_row(frame.slots, out, 17);
     let entries_place = write_row(frame.tokens, out, tokens_place);
     write_row(frame.entries, out, entries_place)
@@ -71,25 +55,13 @@ pub fn write<K: Tally>(frame: &Outgoing<'_, K>, out: &mut [u8]) -> Result<usize,
     ensures written { Written K.kind (carried frame.now) out.old out.new result }
     ensures exact { Exact K.kind }
 {
-    let slots = frame.slots.len();
-    let tokens = frame.tokens.len();
-    let entries = frame.entries.len();
-    if slots > 15 || tokens > 8 || entries > 4 {
+    if frame.slots.len() > 15 || frame.tokens.len() > 8 || frame.entries.len() > 4 {
         return Err(Unwritten::TooMany);
     }
-    let header = Header {
-        sender: frame.sender,
-        tier: frame.tier,
-        addressee: frame.addressee,
-        holds: frame.holds,
-        source_clock: frame.source_clock,
-        destination_clock: frame.destination_clock,
-        slots: slots as u8,
-        tokens: tokens as u8,
-        entries: entries as u8,
-    };
-    if out.len() < counted_length::<K>(header.slots, header.tokens, header.entries) {
+    let header = header_bytes(frame);
+    let [.., slots, tokens, entries] = header;
+    if out.len() < counted_length::<K>(slots, tokens, entries) {
         return Err(Unwritten::TooShort);
     }
-    Ok(write_all(&header.bytes::<K>(), frame, out))
+    Ok(write_all(&header, frame, out))
 }

@@ -1,9 +1,15 @@
 //! Reading and rewriting of frames as functions on bytes, for measurements from another language.
 #![tactic(auto)]
 
+ghost use Rattle.std.specs.Prelude.{◌≡◌};
+ghost use Rattle.std.specs.Option.{option_map_or};
+ghost use Rattle.std.specs.Result.{result_err};
+ghost use Rattle.protocol.specs.Refusals.{condition_number};
+ghost use Rattle.frame.specs.Frames.{judge};
+
 use frame::outgoing::Outgoing;
-use frame::reader::{item_at, item_count, read};
-use frame::received::{Part, Received};
+use frame::reader::read;
+use frame::received::Part;
 use frame::writer::write;
 use frame_items::item::Item;
 use movements::Movements;
@@ -13,67 +19,57 @@ use tally::queues::Queues;
 use tally::vehicles::Vehicles;
 
 // The number of the condition that a frame fails, or 0.
-fn verdict<K: Tally>(bytes: &[u8]) -> u8 {
+fn verdict<K: Tally>(bytes: &[u8]) -> u8
+    ensures { result ≡ option_map_or (λ fault. condition_number fault.condition) (result_err (judge K.kind bytes.now)) 0 }
+{
     match read::<K>(bytes) {
         Ok(_) => 0,
         Err(fault) => fault.condition.number(),
     }
 }
 
-// Reads the items of a part, as many as have a place.
-fn unpack<I: Item>(part: &Part<'_>, items: &mut [I]) {
-    let mut index = 0usize;
-    for place in items.iter_mut() {
-        if let Some(item) = item_at::<I>(part, index) {
-            *place = item;
-        }
-        index = index.saturating_add(1);
+// Takes the items of a part apart into places, as many as there are.
+fn unpacked<'a, I: Item>(part: &Part<'_>, places: &'a mut [I]) -> &'a [I] {
+    for (place, item) in places.iter_mut().zip(part.items::<I>()) {
+        *place = item;
+    }
+    let count = part.item_count::<I>().min(places.len());
+    &places[0..count]
+}
+
+fn no_token<K: Tally>() -> Token<K> {
+    Token {
+        source: 0,
+        destination: 0,
+        source_clock: 0,
+        destination_clock: 0,
+        tally: K::empty(),
     }
 }
 
-// Takes a frame of a kind apart into its items and writes it anew; the length, or 0. For each kind by itself, since the length of an array of items must be known.
-macro_rules! rewritten {
-    ($kind:ty, $bytes:expr, $out:expr) => {{
-        let Ok(frame) = read::<$kind>($bytes) else {
-            return 0;
-        };
-        let mut slots = [SourceSlot {
-            source: 0,
-            slot: Slot {
-                source_clock: 0,
-                destination_clock: 0,
-            },
-        }; 15];
-        let mut tokens = [Token {
-            source: 0,
-            destination: 0,
-            source_clock: 0,
-            destination_clock: 0,
-            tally: <$kind>::empty(),
-        }; 8];
-        let mut entries = [Entry {
-            number: 0,
-            version: 0,
-            tally: <$kind>::empty(),
-        }; 4];
-        unpack(&frame.slots, &mut slots);
-        unpack(&frame.tokens, &mut tokens);
-        unpack(&frame.entries, &mut entries);
-        written::<$kind>(&frame, &slots, &tokens, &entries, $out)
-    }};
+fn no_entry<K: Tally>() -> Entry<K> {
+    Entry {
+        number: 0,
+        version: 0,
+        tally: K::empty(),
+    }
 }
 
-// Writes a frame with the header of another and as many items of these lists as it has.
-fn written<'a, K: Tally>(
-    frame: &Received<'_>,
-    slots: &'a [SourceSlot],
-    tokens: &'a [Token<K>],
-    entries: &'a [Entry<K>],
+// Takes a frame of a kind apart into its items and writes it anew; the length, or 0. Tokens and entries go in lent places, since the room that an array of them takes must be known.
+fn rewritten<K: Tally>(
+    bytes: &[u8],
+    tokens: &mut [Token<K>],
+    entries: &mut [Entry<K>],
     out: &mut [u8],
 ) -> usize {
-    let slot_count = item_count::<SourceSlot>(&frame.slots).min(slots.len());
-    let token_count = item_count::<Token<K>>(&frame.tokens).min(tokens.len());
-    let entry_count = item_count::<Entry<K>>(&frame.entries).min(entries.len());
+    let Ok(frame) = read::<K>(bytes) else {
+        return 0;
+    };
+    let slot = Slot {
+        source_clock: 0,
+        destination_clock: 0,
+    };
+    let mut slots = [SourceSlot { source: 0, slot }; 15];
     let outgoing = Outgoing {
         sender: frame.sender,
         tier: frame.tier,
@@ -81,14 +77,11 @@ fn written<'a, K: Tally>(
         holds: frame.holds,
         source_clock: frame.source_clock,
         destination_clock: frame.destination_clock,
-        slots: &slots[0..slot_count],
-        tokens: &tokens[0..token_count],
-        entries: &entries[0..entry_count],
+        slots: unpacked(&frame.slots, &mut slots),
+        tokens: unpacked(&frame.tokens, tokens),
+        entries: unpacked(&frame.entries, entries),
     };
-    match write::<K>(&outgoing, out) {
-        Ok(length) => length,
-        Err(_) => 0,
-    }
+    write(&outgoing, out).unwrap_or(0)
 }
 
 #[unsafe(no_mangle)]
@@ -108,15 +101,21 @@ pub extern "C" fn frame_verdict_movements(bytes: &[u8]) -> u8 {
 
 #[unsafe(no_mangle)]
 pub extern "C" fn frame_rewrite_vehicles(bytes: &[u8], out: &mut [u8]) -> usize {
-    rewritten!(Vehicles, bytes, out)
+    let mut tokens = [no_token::<Vehicles>(); 8];
+    let mut entries = [no_entry::<Vehicles>(); 4];
+    rewritten(bytes, &mut tokens, &mut entries, out)
 }
 
 #[unsafe(no_mangle)]
 pub extern "C" fn frame_rewrite_queues(bytes: &[u8], out: &mut [u8]) -> usize {
-    rewritten!(Queues, bytes, out)
+    let mut tokens = [no_token::<Queues>(); 8];
+    let mut entries = [no_entry::<Queues>(); 4];
+    rewritten(bytes, &mut tokens, &mut entries, out)
 }
 
 #[unsafe(no_mangle)]
 pub extern "C" fn frame_rewrite_movements(bytes: &[u8], out: &mut [u8]) -> usize {
-    rewritten!(Movements, bytes, out)
+    let mut tokens = [no_token::<Movements>(); 8];
+    let mut entries = [no_entry::<Movements>(); 4];
+    rewritten(bytes, &mut tokens, &mut entries, out)
 }

@@ -1,119 +1,108 @@
 -- The walk over a list of items in bytes.
-use Rattle.std.proofs.Common.{◌≡◌, ℕ, zero, suc, ◌+◌, ◌-◌, ◌*◌, ◌/◌, ◌<◌, ◌≤◌, Bool, true, false, ◌||◌, eqb, List, ◌∷◌, length, get_or, take, drop, Some, None, Option, sym, refl, ap, ◌∙◌, subst, ap₂, mul-le-mul_right, add-mul, zero-mul, div-mul-le_self, mul-div_cancel, arith, length-drop}
-use Rattle.std.proofs.lemmas.List.{drop-drop, length-take-le, get_or-take, get_or-drop, take-take, drop-take}
-use Rattle.std.proofs.lemmas.Bool.{eq-eqb, ne_eqb, or_left}
-use Rattle.tally.specs.Kind.{Kind}
+use Rattle.std.proofs.Common.{◌≡◌, ℕ, zero, suc, ◌+◌, ◌-◌, ◌*◌, ◌/◌, ◌<◌, ◌≤◌, ◌||◌, eqb, List, [], ◌∷◌, ◌++◌, length, take, drop, Some, None, Option, sym, refl, ap, ◌∙◌, subst, ap₂, mul-le-mul_right, add-mul, zero-mul, div-mul-le_self, mul-div_cancel, arith, length-append, length-drop}
+use Rattle.std.proofs.Math.Nat.{div-eq_of_lt, div-eq-sub-div}
+use Rattle.std.proofs.lemmas.List.{take_at, drop_at, take-append-drop, drop-drop, length-take-le, take-take, drop-take}
+use Rattle.std.proofs.lemmas.Iterator.{YieldsList}
+use Rattle.std.proofs.lemmas.Iterator.Splits.{YieldsList-from_shown_while}
+use Rattle.std.specs.Slice.Iter.{chunks_exact_rest, chunks_exact_size, chunks_exact_steps}
+use Rattle.protocol.specs.declared.records.Entry.{Entry}
 use Rattle.protocol.specs.declared.refusal.FrameFault.{FrameFault}
-use Rattle.std.specs.List.{slice_get}
+use Rattle.std.specs.List.{slice_get, list_any}
 use Rattle.std.proofs.lemmas.Option.{slice_get_past}
 use Rattle.frame_items.specs.Format.{Format, or_else, row_fault, shown_row, row_of, length_shown}
-use Rattle.frame_items.specs.Items.{slots, slot_shown, entries, has_entry}
+use Rattle.frame_items.specs.Items.{slots, slot_shown, has_entry}
 
 -- which of four questions answers
 module _ (p q r s : Option FrameFault) where
   abbrev pub asked : Option FrameFault
   asked = or_else p (or_else q (or_else r s))
 
-  pub by_first : (x : FrameFault) → Some x ≡ p → Some x ≡ asked
-  by_first x e = ap (λ o. or_else o (or_else q (or_else r s))) e
+  module _ (answer : Option FrameFault) where
+    pub by_first : (x : FrameFault) → answer ≡ Some x → Some x ≡ p → answer ≡ asked
+    by_first x a e = a ∙ ap (λ o. or_else o (or_else q (or_else r s))) e
 
-  pub by_second : (x : FrameFault) → None ≡ p → Some x ≡ q → Some x ≡ asked
-  by_second x e f = ap₂ (λ o u. or_else o (or_else u (or_else r s))) e f
+    pub by_second : (x : FrameFault) → answer ≡ Some x → None ≡ p → Some x ≡ q → answer ≡ asked
+    by_second x a e f = a ∙ ap₂ (λ o u. or_else o (or_else u (or_else r s))) e f
 
-  pub by_third : (x : FrameFault) → None ≡ p → None ≡ q → Some x ≡ r → Some x ≡ asked
-  by_third x e f g = ap (λ o. or_else o s) g ∙ ap₂ (λ o u. or_else o (or_else u (or_else r s))) e f
+    pub by_third : (x : FrameFault) → answer ≡ Some x → None ≡ p → None ≡ q → Some x ≡ r → answer ≡ asked
+    by_third x a e f g = a ∙ ap (λ o. or_else o s) g ∙ ap₂ (λ o u. or_else o (or_else u (or_else r s))) e f
 
-  pub by_last : (x : Option FrameFault) → None ≡ p → None ≡ q → None ≡ r → x ≡ s → x ≡ asked
-  by_last x e f g h = h ∙ ap (λ o. or_else o s) g ∙ ap₂ (λ o u. or_else o (or_else u (or_else r s))) e f
+    pub by_last : None ≡ p → None ≡ q → None ≡ r → answer ≡ s → answer ≡ asked
+    by_last e f g h = h ∙ ap (λ o. or_else o s) g ∙ ap₂ (λ o u. or_else o (or_else u (or_else r s))) e f
 
--- i of the items are passed, and the next one begins at a place
-pub record Going {I : Type 0} (format : Format I) (b : List ℕ) (start count before at i : ℕ) : Type 0 where
-  pub room : at + (count - i) * format.width ≤ length b
-  pub rest : row_fault format (count - i) before at (drop at b) ≡ row_fault format count 0 start (drop start b)
+-- a row whose first item is split off
+module _ {I : Type 0} (format : Format I) (b x rest : List ℕ) (wide : 0 < format.width) (split : b ≡ x ++ rest) (long : length x ≡ format.width) where
+  count_more : length b / format.width ≡ suc (length rest / format.width)
+  count_more =
+      let whole : length b ≡ format.width + length rest = ap length split ∙ length-append x rest ∙ ap (λ k. k + length rest) long in
+      let k : length b - format.width ≡ length rest = omega arith in
+      div-eq-sub-div wide (omega arith) ∙ omega (arith, ap (λ m. m / format.width) k)
 
-pub begun : {I : Type 0} (format : Format I) (b : List ℕ) (start count : ℕ) → start + count * format.width ≤ length b → Going format b start count 0 start 0
-begun format b start count h =
-    let e : count - 0 ≡ count = omega arith in
-    record { room = omega (arith, ap (λ n. n * format.width) e); rest = ap (λ n. row_fault format n 0 start (drop start b)) e }
+  pub shown_more : row_of format b ≡ format.shows x ∷ row_of format rest
+  unfolding shown_row
+  shown_more =
+      ap₂ (λ n z. shown_row format n z) count_more split
+      ∙ ap₂ (λ y z. format.shows y ∷ shown_row format (length rest / format.width) z) (take_at x rest format.width long) (drop_at x rest format.width long)
 
-module _ {I : Type 0} (format : Format I) (b : List ℕ) (start count before at i : ℕ) (was : Going format b start count before at i) where
-  -- the bytes of the item at hand
-  abbrev pub item : List ℕ
-  item = take format.width (drop at b)
+  pub fault_more : (before at : ℕ) → row_fault format (length b / format.width) before at b ≡ or_else (format.fault before at x) (row_fault format (length rest / format.width) (format.rank (format.shows x)) (at + format.width) rest)
+  unfolding row_fault
+  fault_more before at =
+      ap₂ (λ n z. row_fault format n before at z) count_more split
+      ∙ ap₂ (λ y z. or_else (format.fault before at y) (row_fault format (length rest / format.width) (format.rank (format.shows y)) (at + format.width) z)) (take_at x rest format.width long) (drop_at x rest format.width long)
 
-  module _ (h : i < count) where
-    one_less : count - i ≡ suc (count - (i + 1))
-    one_less = omega arith
+-- the same, where the bytes were cut at the width
+pub shown_cut : {I : Type 0} (format : Format I) (b x rest : List ℕ) (w : ℕ) → w ≡ format.width → 0 < format.width → w ≤ length b → x ≡ take w b → rest ≡ drop w b → row_of format b ≡ format.shows x ∷ row_of format rest
+shown_cut format b x rest w same wide room e f =
+    shown_more format b x rest wide (sym (ap₂ ◌++◌ e f ∙ take-append-drop w b)) (ap length e ∙ length-take-le w b room ∙ same)
 
-    widths : (count - i) * format.width ≡ format.width + (count - (i + 1)) * format.width
-    widths = ap (λ n. n * format.width) one_less ∙ omega (arith, add-mul 1 (count - (i + 1)) format.width)
+-- bytes too short for an item
+pub shown_end : {I : Type 0} (format : Format I) (b : List ℕ) → length b < format.width → row_of format b ≡ []
+unfolding shown_row
+shown_end format b h = ap (λ n. shown_row format n b) (div-eq_of_lt h)
 
-    pub item_within : at + format.width ≤ length b
-    item_within = omega (arith, was.room, widths)
+-- so many items of a row are passed, and the rest is still to be judged; w is the width
+pub record Walk {I : Type 0} (format : Format I) (row : List ℕ) (place w : ℕ) (rest : List ℕ) (passed before : ℕ) : Type 0 where
+  pub room : passed * w + length rest ≡ length row
+  pub fault : row_fault format (length rest / format.width) before (place + passed * w) rest ≡ row_fault format (length row / format.width) 0 place row
 
-    -- the same with the width as the code has it
-    module _ (w : ℕ) (e : w ≡ format.width) where
-      pub fits : at + w ≤ length b
-      fits = omega (arith, item_within)
+pub walk_begun : {I : Type 0} (format : Format I) (row : List ℕ) (place w : ℕ) → Walk format row place w row 0 0
+walk_begun format row place w = record { room = omega arith; fault = ap (λ k. row_fault format (length row / format.width) 0 k row) (omega arith) }
 
-      pub part_is : take (at + w - at) (drop at b) ≡ item
-      part_is = ap (λ k. take k (drop at b)) (omega arith)
+module _ {I : Type 0} (format : Format I) (row : List ℕ) (place w : ℕ) (rest : List ℕ) (passed before : ℕ) (was : Walk format row place w rest passed before) where
+  -- the next item, as an iterator of chunks and their indices gives it
+  module _ (x behind : List ℕ) (index size : ℕ) (here : index ≡ passed) (cut : size ≡ w) (same : w ≡ format.width) (wide : 0 < size) (split : rest ≡ x ++ behind) (long : length x ≡ size) where
+    judged : row_fault format (length rest / format.width) before (place + passed * w) rest ≡ or_else (format.fault before (place + index * w) x) (row_fault format (length behind / format.width) (format.rank (format.shows x)) (place + passed * w + format.width) behind)
+    judged =
+        fault_more format rest x behind (omega arith) split (omega arith) before (place + passed * w)
+        ∙ ap (λ n. or_else (format.fault before (place + n * w) x) (row_fault format (length behind / format.width) (format.rank (format.shows x)) (place + passed * w + format.width) behind)) (sym here)
 
-      pub part_long : length (take (at + w - at) (drop at b)) ≡ format.width
-      part_long = ap length part_is ∙ length-take-le format.width (drop at b) (omega (arith, length-drop at b, item_within))
-
-    unfolded : row_fault format (count - i) before at (drop at b) ≡ or_else (format.fault before at item) (row_fault format (count - (i + 1)) (format.rank (format.shows item)) (at + format.width) (drop (at + format.width) b))
-    unfolding row_fault
-    unfolded =
-        ap (λ n. row_fault format n before at (drop at b)) one_less
-        ∙ ap (λ z. or_else (format.fault before at item) (row_fault format (count - (i + 1)) (format.rank (format.shows item)) (at + format.width) z)) (drop-drop format.width at b)
-
-    pub passed : (rank : ℕ) → format.fault before at item ≡ None → rank ≡ format.rank (format.shows item) → Going format b start count rank (at + format.width) (i + 1)
-    passed rank e f =
-        let more = row_fault format (count - (i + 1)) (format.rank (format.shows item)) (at + format.width) (drop (at + format.width) b) in
+    pub walk_on : (rank next : ℕ) → next ≡ passed + 1 → None ≡ format.fault before (place + index * w) x → rank ≡ format.rank (format.shows x) → Walk format row place w behind next rank
+    walk_on rank next after fine ranked =
+        let n = length behind / format.width in
+        let at : place + next * w ≡ place + passed * w + format.width = rw after (omega (arith, add-mul passed 1 w)) in
         record {
-          room = omega (arith, was.room, widths);
-          rest = ap (λ r. row_fault format (count - (i + 1)) r (at + format.width) (drop (at + format.width) b)) f ∙ sym (unfolded ∙ ap (λ o. or_else o more) e) ∙ was.rest;
+          room = rw after (omega (arith, was.room, ap length split, length-append x behind, add-mul passed 1 w));
+          fault = ap₂ (λ r k. row_fault format n r k behind) ranked at ∙ sym (judged ∙ ap (λ o. or_else o (row_fault format n (format.rank (format.shows x)) (place + passed * w + format.width) behind)) (sym fine)) ∙ was.fault;
         }
 
-    pub stopped : (fault : FrameFault) → format.fault before at item ≡ Some fault → Some fault ≡ row_fault format count 0 start (drop start b)
-    stopped fault e =
-        let more = row_fault format (count - (i + 1)) (format.rank (format.shows item)) (at + format.width) (drop (at + format.width) b) in
-        sym (unfolded ∙ ap (λ o. or_else o more) e) ∙ was.rest
+    pub walk_stops : (answer : Option FrameFault) (fault : FrameFault) → answer ≡ Some fault → Some fault ≡ format.fault before (place + index * w) x → answer ≡ row_fault format (length row / format.width) 0 place row
+    walk_stops answer fault e f =
+        e ∙ sym (judged ∙ ap (λ o. or_else o (row_fault format (length behind / format.width) (format.rank (format.shows x)) (place + passed * w + format.width) behind)) (sym f)) ∙ was.fault
 
-  pub ended : count ≤ i → None ≡ row_fault format count 0 start (drop start b)
+  pub walk_ended : length rest < format.width → None ≡ row_fault format (length row / format.width) 0 place row
   unfolding row_fault
-  ended h = let e : 0 ≡ count - i = omega arith in ap (λ n. row_fault format n before at (drop at b)) e ∙ was.rest
+  walk_ended h = sym (ap (λ n. row_fault format n before (place + passed * w) rest) (div-eq_of_lt h)) ∙ was.fault
 
--- the item at an index
-pub nth_shown : {I : Type 0} (format : Format I) (n i : ℕ) (b : List ℕ) → i < n → slice_get (shown_row format n b) i ≡ Some (format.shows (take format.width (drop (i * format.width) b)))
-unfolding shown_row
-nth_shown format zero i b h = absurd (omega arith)
-nth_shown format (suc n) zero b h = ap (λ k. Some (format.shows (take format.width (drop k b)))) (sym (zero-mul format.width))
-nth_shown format (suc n) (suc i) b h =
-    let w = format.width in
-    nth_shown format n i (drop w b) (omega arith) ∙ ap (λ z. Some (format.shows (take w z))) (drop-drop (i * w) w b ∙ ap (λ k. drop k b) (omega (arith, add-mul 1 i w)))
-
-pub nth_none : {I : Type 0} (format : Format I) (n i : ℕ) (b : List ℕ) → n ≤ i → None ≡ slice_get (shown_row format n b) i
-nth_none format n i b h = sym (slice_get_past (shown_row format n b) i (omega (arith, length_shown format n b)))
-
--- an item before the last lies within the list
-pub index_within : (n i w : ℕ) → i < n → i * w + w ≤ n * w
-index_within n i w h = omega (arith, mul-le-mul_right {m = i + 1} {n = n} w (omega arith), add-mul i 1 w)
-
--- the same in the code's terms: w is the width, and as many items as fit are in the bytes
-module _ {I : Type 0} (format : Format I) (b : List ℕ) (i w : ℕ) (e : w ≡ format.width) (h : i < length b / w) where
-  pub item_fits : i * w + w ≤ length b
-  item_fits = omega (arith, index_within (length b / w) i w h, div-mul-le_self (length b) w)
-
-  pub item_shown : (x : I) → x ≡ format.shows (take (i * w + w - i * w) (drop (i * w) b)) → Some x ≡ slice_get (row_of format b) i
-  item_shown x f =
-      let k : i * w + w - i * w ≡ format.width = omega arith in
-      let n : length b / w ≡ length b / format.width = ap (λ z. length b / z) e in
-      ap Some (f ∙ ap format.shows (ap₂ (λ m z. take m (drop (i * z) b)) k e)) ∙ sym (nth_shown format (length b / format.width) i b (subst (λ z. i < z) n h))
+-- the chunks of a row show its items
+pub chunks_show : {I : Type 0} (format : Format I) → 0 < format.width → {s : _} → chunks_exact_size s ≡ format.width → YieldsList (chunks_exact_steps {A = ℕ}) (λ x. format.shows x.now) s (row_of format (chunks_exact_rest s))
+chunks_show format wide {s} e =
+    YieldsList-from_shown_while (chunks_exact_steps {A = ℕ}) (λ x. format.shows x.now) (λ t. row_of format (chunks_exact_rest t)) (λ t. chunks_exact_size t ≡ format.width)
+    (λ t u p h. ap length (shown_end format (chunks_exact_rest t) (omega (arith, p, h.1.0))))
+    (λ t x u p h. (h.0 ∙ p, shown_more format (chunks_exact_rest t) x.now (chunks_exact_rest u) wide h.1.0 (h.1.1 ∙ p)))
+    s e
 
 -- a row read from its own part of the bytes
-pub row_within : {I : Type 0} (format : Format I) (n : ℕ) (b : List ℕ) → shown_row format n (take (n * format.width) b) ≡ shown_row format n b
+row_within : {I : Type 0} (format : Format I) (n : ℕ) (b : List ℕ) → shown_row format n (take (n * format.width) b) ≡ shown_row format n b
 unfolding shown_row
 row_within format zero b = refl
 row_within format (suc n) b =
@@ -122,14 +111,30 @@ row_within format (suc n) b =
     let long : take (suc n * w) b ≡ take (w + n * w) b = ap (λ k. take k b) m in
     ap₂ (λ x y. format.shows x ∷ shown_row format n y) (ap (take w) long ∙ take-take w (w + n * w) b (omega arith)) (ap (drop w) long ∙ drop-take w (n * w) b) ∙ ap (λ z. format.shows (take w b) ∷ z) (row_within format n (drop w b))
 
-pub row_of_part : {I : Type 0} (format : Format I) (b : List ℕ) (from to n : ℕ) → 0 < format.width → to ≡ from + n * format.width → to ≤ length b → row_of format (take (to - from) (drop from b)) ≡ shown_row format n (drop from b)
-row_of_part format b from to n p e h =
+-- so is its first fault
+fault_within : {I : Type 0} (format : Format I) (n before at : ℕ) (b : List ℕ) → row_fault format n before at (take (n * format.width) b) ≡ row_fault format n before at b
+unfolding row_fault
+fault_within format zero before at b = refl
+fault_within format (suc n) before at b =
     let w = format.width in
-    let k : to - from ≡ n * w = omega arith in
-    let part : take (to - from) (drop from b) ≡ take (n * w) (drop from b) = ap (λ m. take m (drop from b)) k in
-    let long : length (take (n * w) (drop from b)) ≡ n * w = length-take-le (n * w) (drop from b) (omega (arith, length-drop from b)) in
-    let count : length (take (n * w) (drop from b)) / w ≡ n = ap (λ m. m / w) long ∙ mul-div_cancel n p in
-    ap (row_of format) part ∙ ap (λ m. shown_row format m (take (n * w) (drop from b))) count ∙ row_within format n (drop from b)
+    let m : suc n * w ≡ w + n * w = omega (arith, add-mul 1 n w) in
+    let long : take (suc n * w) b ≡ take (w + n * w) b = ap (λ k. take k b) m in
+    ap₂ (λ x y. or_else (format.fault before at x) (row_fault format n (format.rank (format.shows x)) (at + w) y)) (ap (take w) long ∙ take-take w (w + n * w) b (omega arith)) (ap (drop w) long ∙ drop-take w (n * w) b)
+    ∙ ap (or_else (format.fault before at (take w b))) (fault_within format n (format.rank (format.shows (take w b))) (at + w) (drop w b))
+
+-- a part that begins at a place and is so many items long
+module _ {I : Type 0} (format : Format I) (b part : List ℕ) (at n : ℕ) (wide : 0 < format.width) (cut : part ≡ take (n * format.width) (drop at b)) (room : at + n * format.width ≤ length b) where
+  pub part_long : length part ≡ n * format.width
+  part_long = ap length cut ∙ length-take-le (n * format.width) (drop at b) (omega (arith, length-drop at b))
+
+  items_in_part : length part / format.width ≡ n
+  items_in_part = ap (λ m. m / format.width) part_long ∙ mul-div_cancel n wide
+
+  pub part_shows : row_of format part ≡ shown_row format n (drop at b)
+  part_shows = ap (λ m. shown_row format m part) items_in_part ∙ ap (shown_row format n) cut ∙ row_within format n (drop at b)
+
+  pub part_fails : (place : ℕ) → row_fault format (length part / format.width) 0 place part ≡ row_fault format n 0 place (drop at b)
+  part_fails place = ap (λ m. row_fault format m 0 place part) items_in_part ∙ ap (row_fault format n 0 place) cut ∙ fault_within format n 0 place (drop at b)
 
 -- whose frame it is does not change what slots are shown
 pub slots_alike : (m k n : ℕ) (b : List ℕ) → shown_row (slots m) n b ≡ shown_row (slots k) n b
@@ -138,34 +143,6 @@ slots_alike m k zero b = refl
 slots_alike m k (suc n) b = ap (λ z. slot_shown (take 9 b) ∷ z) (slots_alike m k n (drop 9 b))
 
 -- the search for the entry of a number
-module _ {V : Type 0} (kind : Kind V) (number : ℕ) where
-  abbrev pub found_in : ℕ → List ℕ → Bool
-  found_in n b = has_entry number (shown_row (entries kind) n b)
-
-  first_number : (b : List ℕ) (k : ℕ) → get_or (take (5 + k) b) 0 0 ≡ get_or b 0 0
-  first_number b k = get_or-take (5 + k) b 0 0 (omega arith)
-
-  pub found_here : (b : List ℕ) (n at : ℕ) → 0 < n → get_or b at 0 ≡ number → found_in n (drop at b) ≡ true
-  unfolding shown_row
-  found_here b zero at h e = absurd (omega arith)
-  found_here b (suc n) at h e =
-      or_left _ _ (eq-eqb _ number (first_number (drop at b) kind.width ∙ get_or-drop at b 0 0 ∙ ap (λ k. get_or b k 0) (omega arith) ∙ e))
-
-  pub found_later : (b : List ℕ) (n m at : ℕ) → n ≡ suc m → (get_or b at 0 ≡ number → ⊥) → found_in m (drop (at + (5 + kind.width)) b) ≡ found_in n (drop at b)
-  unfolding shown_row
-  found_later b n m at e d =
-      let w = 5 + kind.width in
-      let other : eqb (get_or (take w (drop at b)) 0 0) number ≡ false = ne_eqb _ number (λ u. d (sym (first_number (drop at b) kind.width ∙ get_or-drop at b 0 0 ∙ ap (λ k. get_or b k 0) (omega arith)) ∙ u)) in
-      ap (found_in m) (sym (drop-drop w at b)) ∙ sym (ap (λ t. t || found_in m (drop w (drop at b))) other) ∙ ap (λ k. found_in k (drop at b)) (sym e)
-
-  pub found_last : (b : List ℕ) (n at : ℕ) → n ≡ 0 → false ≡ found_in n (drop at b)
-  unfolding shown_row
-  found_last b n at e = ap (λ k. found_in k (drop at b)) (sym e)
-
--- what is left after one item more
-pub one_item_less : (at n i w length : ℕ) → i < n → at + (n - i) * w ≤ length → (at + w ≤ length) × (at + w + (n - (i + 1)) * w ≤ length)
-one_item_less at n i w length h l =
-    let e : n - i ≡ 1 + (n - (i + 1)) = omega arith in
-    let m = ap (λ k. k * w) e in
-    let d = add-mul 1 (n - (i + 1)) w in
-    (omega arith, omega arith)
+pub any_has : {V : Type 0} (number : ℕ) (es : List (Entry V)) → list_any (λ e. eqb e.number number) es ≡ has_entry number es
+any_has number [] = refl
+any_has number (e ∷ es) = ap (λ t. eqb e.number number || t) (any_has number es)

@@ -1,5 +1,6 @@
 -- The items of a frame: slots, tokens and entries.
 use Rattle.std.specs.Prelude.{◌≡◌, ℕ, ◌+◌, ◌*◌, ◌^◌, ◌<◌, ◌≤◌, Bool, true, false, cond, not, ◌&&◌, ◌||◌, List, [], ◌∷◌, ◌++◌, length, drop, Some, None, Ok, Err, Option, Result, ◌==◌, nat_le, nat_lt, slice_index, slice_index_or}
+use Rattle.std.specs.Result.{result_unwrap_or}
 use Rattle.std.proofs.Math.Path.{refl}
 use Rattle.std.proofs.Common.{sym, ap, ap₂, ◌∙◌, append-nil, arith}
 use Rattle.std.proofs.Math.ListN.{length-drop}
@@ -74,12 +75,8 @@ pair_after before source destination = number source && (number destination && (
 
 -- the tally that bytes show, and its fault at a place
 module _ {V : Type 0} (kind : Kind V) where
-  abbrev pub value_or : V → Result V Fault → V
-  value_or v (Ok x) = x
-  value_or v (Err f) = v
-
   abbrev pub tally_shown : List ℕ → V
-  tally_shown b = value_or kind.empty (kind.read b)
+  tally_shown b = result_unwrap_or (kind.read b) kind.empty
 
   abbrev pub fault_of : ℕ → Result V Fault → Option FrameFault
   fault_of place (Ok x) = None
@@ -88,7 +85,7 @@ module _ {V : Type 0} (kind : Kind V) where
   abbrev pub tally_fault : ℕ → List ℕ → Option FrameFault
   tally_fault place b = fault_of place (kind.read b)
 
-  tally_only_by : (place : ℕ) (b : List ℕ) → Lawful kind → length b ≡ kind.width → Octets b → (r : Result V Fault) → kind.read b ≡ r → fault_of place r ≡ None → kind.bytes (value_or kind.empty r) ≡ b
+  tally_only_by : (place : ℕ) (b : List ℕ) → Lawful kind → length b ≡ kind.width → Octets b → (r : Result V Fault) → kind.read b ≡ r → fault_of place r ≡ None → kind.bytes (result_unwrap_or r kind.empty) ≡ b
   tally_only_by place b laws l o (Ok x) e f = laws.reads_only b l o x e
   tally_only_by place b laws l o (Err x) e f = let z : ◌≡◌ {A = ℕ} 0 1 = cc in absurd (omega arith)
 
@@ -199,7 +196,7 @@ module _ {V : Type 0} (kind : Kind V) (laws : Lawful kind) where
   entry_same x y p q r = λ i. record { number = p i; version = q i; tally = r i }
 
   tally_back : (x : V) → tally_shown kind (kind.bytes x) ≡ x
-  tally_back x = ap (value_or kind kind.empty) (laws.reads_back x)
+  tally_back x = ap (λ r. result_unwrap_or r kind.empty) (laws.reads_back x)
 
   tally_passes : (place : ℕ) (x : V) → tally_fault kind place (kind.bytes x) ≡ None
   tally_passes place x = ap (fault_of kind place) (laws.reads_back x)

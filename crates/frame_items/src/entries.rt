@@ -4,7 +4,8 @@ ghost use Rattle.frame_items.specs.Items.{entries, entries_sound};
 ghost use Rattle.std.proofs.Common.{rules};
 
 use crate::item::Item;
-use crate::tallies::{tally_fault, tally_shown, write_tally};
+use crate::require::require;
+use crate::tallies::{check_tally, tally_shown, write_tally};
 use big_endian::BigEndian;
 use protocol::limits::{CLOCK_MAX, NODES_MAX};
 use protocol::records::Entry;
@@ -26,21 +27,13 @@ impl<K: Tally> Item for Entry<K> {
         u16::from(bytes[0])
     }
 
-    fn fault(bytes: &[u8], _sender: u8, before: u16, place: usize) -> Option<FrameFault> {
+    fn check(bytes: &[u8], _sender: u8, before: u16, place: usize) -> Result<(), FrameFault> {
         let number = bytes[0];
-        if u16::from(number) <= before || number > NODES_MAX {
-            return Some(FrameFault {
-                condition: Condition::Numbers,
-                place,
-            });
-        }
-        if u32::read_at(bytes, 1) > CLOCK_MAX {
-            return Some(FrameFault {
-                condition: Condition::ItemClock,
-                place: place + 1,
-            });
-        }
-        tally_fault::<K>(bytes, 5, place)
+        let may_follow = before < u16::from(number) && number <= NODES_MAX;
+        require(may_follow, Condition::Numbers, place)?;
+        let version_within = u32::read_at(bytes, 1) <= CLOCK_MAX;
+        require(version_within, Condition::ItemClock, place + 1)?;
+        check_tally::<K>(bytes, 5, place)
     }
 
     fn shown(bytes: &[u8]) -> Entry<K> {

@@ -1,5 +1,6 @@
 //! What slots, tokens and entries have in common as items of a frame's lists.
 ghost use Rattle.std.specs.Prelude.{◌≡◌, ℕ, ◌<◌, ◌≤◌, length};
+ghost use Rattle.std.specs.Result.{result_err};
 ghost use Rattle.protocol.specs.Limits.{frame_bytes_max};
 ghost use Rattle.frame_items.specs.Format.{Format};
 
@@ -18,11 +19,11 @@ pub trait Item: Copy {
         requires { length bytes.now ≡ (format 0).width }
         ensures { (sender : ℕ) → result ≡ (format sender).rank ((format sender).shows bytes.now) };
 
-    /// The first condition that the bytes at a place of a frame fail, after an item of a rank.
-    fn fault(bytes: &[u8], sender: u8, before: u16, place: usize) -> Option<FrameFault>
+    /// Judges the bytes at a place of a frame, after an item of a rank: the first condition that they fail is the error.
+    fn check(bytes: &[u8], sender: u8, before: u16, place: usize) -> Result<(), FrameFault>
         requires width { length bytes.now ≡ (format sender).width }
         requires within { place ≤ frame_bytes_max }
-        ensures { result ≡ (format sender).fault before place bytes.now };
+        ensures { result_err result ≡ (format sender).fault before place bytes.now };
 
     /// The item that bytes show.
     fn shown(bytes: &[u8]) -> Self

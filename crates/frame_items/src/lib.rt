@@ -3,6 +3,7 @@
 
 pub mod entries;
 pub mod item;
+pub mod require;
 pub mod rows;
 pub mod slots;
 pub mod tallies;

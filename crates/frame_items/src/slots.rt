@@ -4,6 +4,7 @@ ghost use Rattle.frame_items.specs.Items.{slots};
 ghost use Rattle.std.proofs.Common.{rules};
 
 use crate::item::Item;
+use crate::require::require;
 use big_endian::BigEndian;
 use protocol::limits::{CLOCK_MAX, NODES_MAX};
 use protocol::records::{Slot, SourceSlot};
@@ -24,27 +25,14 @@ impl Item for SourceSlot {
         u16::from(bytes[0])
     }
 
-    fn fault(bytes: &[u8], sender: u8, before: u16, place: usize) -> Option<FrameFault> {
+    fn check(bytes: &[u8], sender: u8, before: u16, place: usize) -> Result<(), FrameFault> {
         let source = bytes[0];
-        if u16::from(source) <= before || source > NODES_MAX || source == sender {
-            return Some(FrameFault {
-                condition: Condition::Numbers,
-                place,
-            });
-        }
-        if u32::read_at(bytes, 1) > CLOCK_MAX {
-            return Some(FrameFault {
-                condition: Condition::ItemClock,
-                place: place + 1,
-            });
-        }
-        if u32::read_at(bytes, 5) > CLOCK_MAX {
-            return Some(FrameFault {
-                condition: Condition::ItemClock,
-                place: place + 5,
-            });
-        }
-        None
+        let may_follow = before < u16::from(source) && source <= NODES_MAX && source != sender;
+        require(may_follow, Condition::Numbers, place)?;
+        let source_within = u32::read_at(bytes, 1) <= CLOCK_MAX;
+        require(source_within, Condition::ItemClock, place + 1)?;
+        let destination_within = u32::read_at(bytes, 5) <= CLOCK_MAX;
+        require(destination_within, Condition::ItemClock, place + 5)
     }
 
     fn shown(bytes: &[u8]) -> SourceSlot {

@@ -1,21 +1,22 @@
 //! The tally at the end of an item.
 ghost use Rattle.std.specs.Prelude.{◌≡◌, ◌+◌, ◌≤◌, ◌++◌, length, take, drop};
+ghost use Rattle.std.specs.Result.{result_err};
 ghost use Rattle.protocol.specs.Limits.{frame_bytes_max};
 ghost use Rattle.frame_items.specs.Items.{tally_fault, tally_shown};
 
 use protocol::refusal::{Condition, FrameFault};
 use tally::kind::Tally;
 
-// The fault of an item's tally, which begins so far behind the item's place in the frame.
-pub fn tally_fault<K: Tally>(item: &[u8], from: usize, place: usize) -> Option<FrameFault>
+// Judges an item's tally, which begins so far behind the item's place in the frame.
+pub fn check_tally<K: Tally>(item: &[u8], from: usize, place: usize) -> Result<(), FrameFault>
     requires width { length item.now ≡ from + K.kind.width }
     requires within { place ≤ frame_bytes_max }
     requires header { from ≤ 10 }
-    ensures { result ≡ tally_fault K.kind (place + from) (drop from item.now) }
+    ensures { result_err result ≡ tally_fault K.kind (place + from) (drop from item.now) }
 {
     match K::read(&item[from..]) {
-        Ok(_) => None,
-        Err(fault) => Some(FrameFault {
+        Ok(_) => Ok(()),
+        Err(fault) => Err(FrameFault {
             condition: Condition::Tally(fault.number),
             place: place + from + fault.place,
         }),
@@ -27,10 +28,7 @@ pub fn tally_shown<K: Tally>(item: &[u8], from: usize) -> K
     requires { length item.now ≡ from + K.kind.width }
     ensures { result ≡ tally_shown K.kind (drop from item.now) }
 {
-    match K::read(&item[from..]) {
-        Ok(tally) => tally,
-        Err(_) => K::empty(),
-    }
+    K::read(&item[from..]).unwrap_or_else(|_| K::empty())
 }
 
 // Lends the end of an item to the tally's own writing; the bytes before it stay.

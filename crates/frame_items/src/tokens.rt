@@ -4,7 +4,8 @@ ghost use Rattle.frame_items.specs.Items.{tokens, pair_rank, pair_after, tokens_
 ghost use Rattle.std.proofs.Common.{rules};
 
 use crate::item::Item;
-use crate::tallies::{tally_fault, tally_shown, write_tally};
+use crate::require::require;
+use crate::tallies::{check_tally, tally_shown, write_tally};
 use big_endian::BigEndian;
 use protocol::limits::{CLOCK_MAX, NODES_MAX};
 use protocol::records::Token;
@@ -45,26 +46,14 @@ impl<K: Tally> Item for Token<K> {
         pair_rank(bytes[0], bytes[1])
     }
 
-    fn fault(bytes: &[u8], _sender: u8, before: u16, place: usize) -> Option<FrameFault> {
-        if !pair_may_follow(before, bytes[0], bytes[1]) {
-            return Some(FrameFault {
-                condition: Condition::Numbers,
-                place,
-            });
-        }
-        if u32::read_at(bytes, 2) > CLOCK_MAX {
-            return Some(FrameFault {
-                condition: Condition::ItemClock,
-                place: place + 2,
-            });
-        }
-        if u32::read_at(bytes, 6) > CLOCK_MAX {
-            return Some(FrameFault {
-                condition: Condition::ItemClock,
-                place: place + 6,
-            });
-        }
-        tally_fault::<K>(bytes, 10, place)
+    fn check(bytes: &[u8], _sender: u8, before: u16, place: usize) -> Result<(), FrameFault> {
+        let may_follow = pair_may_follow(before, bytes[0], bytes[1]);
+        require(may_follow, Condition::Numbers, place)?;
+        let source_within = u32::read_at(bytes, 2) <= CLOCK_MAX;
+        require(source_within, Condition::ItemClock, place + 2)?;
+        let destination_within = u32::read_at(bytes, 6) <= CLOCK_MAX;
+        require(destination_within, Condition::ItemClock, place + 6)?;
+        check_tally::<K>(bytes, 10, place)
     }
 
     fn shown(bytes: &[u8]) -> Token<K> {

@@ -1,5 +1,4 @@
 //! A frame in words.
-use frame::reader::{item_at, item_count};
 use frame::received::Received;
 use frame_logs::tallies::{InWords, Told};
 use protocol::records::{Entry, SourceSlot, Token};
@@ -65,20 +64,14 @@ pub fn print_frame<K: Tally + Told>(
     frame: &Received<'_>,
 ) -> io::Result<()> {
     print_header(rt, place, frame)?;
-    for index in 0..item_count::<SourceSlot>(&frame.slots) {
-        if let Some(slot) = item_at::<SourceSlot>(&frame.slots, index) {
-            print_slot(rt, &slot)?;
-        }
+    for slot in frame.slots.items::<SourceSlot>() {
+        print_slot(rt, &slot)?;
     }
-    for index in 0..item_count::<Token<K>>(&frame.tokens) {
-        if let Some(token) = item_at::<Token<K>>(&frame.tokens, index) {
-            print_token(rt, &token)?;
-        }
+    for token in frame.tokens.items::<Token<K>>() {
+        print_token(rt, &token)?;
     }
-    for index in 0..item_count::<Entry<K>>(&frame.entries) {
-        if let Some(entry) = item_at::<Entry<K>>(&frame.entries, index) {
-            print_entry(rt, &entry)?;
-        }
+    for entry in frame.entries.items::<Entry<K>>() {
+        print_entry(rt, &entry)?;
     }
     Ok(())
 }

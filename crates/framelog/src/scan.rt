@@ -1,7 +1,7 @@
 //! Logs read as streams, line by line.
 use crate::account::{Place, print_frame};
 use crate::conditions::Meaning;
-use frame::reader::{item_at, item_count, read};
+use frame::reader::read;
 use frame::received::Received;
 use frame_logs::counts::Clocks;
 use frame_logs::line::Line;
@@ -83,10 +83,8 @@ impl Scan {
             destination: frame.destination_clock,
         };
         self.summary.add_frame(frame.sender, clocks);
-        for index in 0..item_count::<Token<K>>(&frame.tokens) {
-            if let Some(token) = item_at::<Token<K>>(&frame.tokens, index) {
-                self.summary.add_token(token.source, token.destination);
-            }
+        for token in frame.tokens.items::<Token<K>>() {
+            self.summary.add_token(token.source, token.destination);
         }
         if self.in_full {
             print_frame::<K>(rt, place, frame)?;

@@ -12,12 +12,15 @@ use protocol::records::Slot;
 use tally::kind::Tally;
 
 impl Slots {
-    /// The slot for a number.
+    /// The slot for a number, if it has one.
     pub fn get(&self, number: u8) -> Option<Slot>
-        requires { IsNumber number }
         ensures { result ≡ by_number self.now.places number }
     {
-        self.places[usize::from(number) - 1]
+        let place = usize::from(number);
+        if place == 0 || place > self.places.len() {
+            return None;
+        }
+        self.places[place - 1]
     }
 
     /// Sets or removes the slot for a number.
@@ -31,7 +34,6 @@ impl Slots {
 
 /// Drops the slot for the sender of a frame, if it is outdated.
 pub fn drop_slot<K: Tally>(node: &mut Node, frame: &Received<'_>)
-    requires { IsNumber frame.now.sender }
     ensures rule { Slotted (drop_slot frame.now.sender (showing K.kind frame.now)) node.old node.new }
     ensures clocks { (node.new.source_clock ≡ node.old.source_clock) × (node.new.destination_clock ≡ node.old.destination_clock) }
 {
@@ -56,7 +58,7 @@ pub fn make_slot<K: Tally>(node: &mut Node, frame: &Received<'_>)
     if !frame.holds {
         return;
     }
-    if let Some(_) = node.slots.get(frame.sender) {
+    if node.slots.get(frame.sender).is_some() {
         return;
     }
     let slot = Slot {

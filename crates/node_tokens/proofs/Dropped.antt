@@ -1,7 +1,6 @@
 -- Dropping dead tokens is the rule.
-use Rattle.std.proofs.Common.{◌≡◌, ℕ, ◌+◌, ◌<◌, ◌≤◌, Bool, true, false, cond, not, ◌&&◌, eqb, ltb, List, ◌++◌, map, length, get_or, take, drop, set, Some, None, Option, refl, ap, ◌∙◌, ap₂, ⊎_elim, append-nil, take_all}
+use Rattle.std.proofs.Common.{◌≡◌, ℕ, ◌+◌, ◌<◌, Bool, true, false, cond, not, ◌&&◌, eqb, ltb, List, ◌++◌, map, length, get_or, take, drop, set, Some, None, Option, sym, refl, ap, ◌∙◌, ap₂, ⊎_elim}
 use mathlib.Core.Path.{fun_ext}
-use Rattle.std.proofs.lemmas.List.{drop_all}
 use Rattle.std.proofs.lemmas.List.Edits.{map_over_more}
 use Rattle.std.proofs.lemmas.Bool.{cases_Bool}
 use Rattle.tally.specs.Kind.{Kind}
@@ -45,11 +44,8 @@ module _ {V : Type 0} (j : ℕ) (m : View V) where
       (cases_Bool (eqb k i))
 
 -- the loop over the cells
-pub lives_more : {V : Type 0} (kind : Kind V) (f : Received) (xs ys : List (Option (Token V))) (i : ℕ) (x y : Option (Token V)) → i < length xs → ys ≡ living kind f (take i xs) ++ drop i xs → x ≡ get_or ys i x → y ≡ keep (lives f.sender (showing kind f)) x → set ys i y ≡ living kind f (take (i + 1) xs) ++ drop (i + 1) xs
-lives_more kind f xs ys i x y h inv read e = ap (set ys i) e ∙ map_over_more (keep (lives f.sender (showing kind f))) xs ys i x h inv read
-
-pub lives_all : {V : Type 0} (kind : Kind V) (f : Received) (xs ys : List (Option (Token V))) (i : ℕ) → length xs ≤ i → ys ≡ living kind f (take i xs) ++ drop i xs → ys ≡ living kind f xs
-lives_all kind f xs ys i h inv = inv ∙ ap₂ (λ x y. living kind f x ++ y) (take_all i xs h) (drop_all i xs h) ∙ append-nil (living kind f xs)
+pub lives_more : {V : Type 0} (kind : Kind V) (f : Received) (xs ys : List (Option (Token V))) (i : ℕ) (x y : Option (Token V)) → i < length xs → ys ≡ living kind f (take i xs) ++ drop i xs → x ≡ get_or ys i x → y ≡ keep (lives f.sender (showing kind f)) (get_or ys i x) → set ys i y ≡ living kind f (take (i + 1) xs) ++ drop (i + 1) xs
+lives_more kind f xs ys i x y h inv read e = ap (set ys i) (e ∙ ap (keep (lives f.sender (showing kind f))) (sym read)) ∙ map_over_more (keep (lives f.sender (showing kind f))) xs ys i x h inv read
 
 -- two nodes that differ in their tokens
 pub same_tokens : {V : Type 0} (n : Rule V) (s t : ℕ → ℕ → Option (Token V)) → ((k l : ℕ) → s k l ≡ t k l) → with_tokens s n ≡ with_tokens t n

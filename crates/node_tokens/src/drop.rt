@@ -13,13 +13,11 @@ use tally::kind::Tally;
 fn left<K: Tally>(cell: Option<Token<K>>, frame: &Received<'_>) -> Option<Token<K>>
     ensures { result ≡ keep (lives frame.now.sender (showing K.kind frame.now)) cell }
 {
-    let Some(token) = cell else {
-        return None;
-    };
-    let deadline = match slot_of(&frame.slots, token.source) {
-        Some(slot) => slot.destination_clock,
-        None => frame.destination_clock,
-    };
+    let token = cell?;
+    let deadline = slot_of(&frame.slots, token.source).map_or(
+        frame.destination_clock,
+        |slot| slot.destination_clock,
+    );
     if token.destination == frame.sender && token.destination_clock < deadline {
         None
     } else {
@@ -32,8 +30,7 @@ pub fn drop_dead<K: Tally>(cells: &mut [Option<Token<K>>], frame: &Received<'_>)
     ensures cells { cells.new ≡ living K.kind frame.now cells.old }
     ensures rule { Drops K.kind frame.now }
 {
-    for i in 0..cells.len() {
-        let cell = cells[i];
-        cells[i] = left(cell, frame);
+    for cell in cells.iter_mut() {
+        *cell = left(*cell, frame);
     }
 }

@@ -1,23 +1,25 @@
-use Rattle.std.proofs.Common.{None, ap, ◌∙◌, ap₂}
-use Rattle.frame_items.specs.Format.{or_else}
-use Rattle.frame.specs.Frames.{lists_fault, shown, verdict}
+use Rattle.std.proofs.Common.{rules}
 use Rattle.frame.proofs.Exactly.{exact}
+use Rattle.frame.proofs.Lying.{counted, parts_within, refused, accepted}
 use Rattle.frame.proofs.reader.read.Goals as goal
 
-pub returns-in-Some : goal.returns-in-Some
-returns-in-Some g c =
-    let kind = g.K.Tally.kind in
-    let b = c.args.bytes.now in
-    record { judged = ap (λ o. verdict kind (or_else o (lists_fault kind b)) (shown kind b)) c.in-Some.ensures; exact = exact kind g.K.Tally.laws }
+pub returns-in_err-check_header-clause-exact : goal.returns-in_err-check_header-clause-exact
+returns-in_err-check_header-clause-exact g c = exact g.K.Tally.kind g.K.Tally.laws
 
-pub returns-in-Some-lists_fault : goal.returns-in-Some-lists_fault
-returns-in-Some-lists_fault g c =
-    let kind = g.K.Tally.kind in
-    let b = c.args.bytes.now in
-    record { judged = ap₂ (λ o p. verdict kind (or_else o p) (shown kind b)) c.in_default.ensures c.in-Some-lists_fault.ensures; exact = exact kind g.K.Tally.laws }
+pub received-frame-requires : goal.received-frame-requires
+received-frame-requires g c = counted g.K.Tally.kind c.args.bytes.now c.in_ok-check_header.ensures
+
+pub check_lists-requires : goal.check_lists-requires
+check_lists-requires g c = parts_within g.K.Tally.kind c.args.bytes.now _ c.received-frame.ensures.laid (counted g.K.Tally.kind c.args.bytes.now c.in_ok-check_header.ensures)
+
+pub returns-in_err-check_lists : goal.returns-in_err-check_lists
+returns-in_err-check_lists g c = record {
+  judged = refused g.K.Tally.kind c.args.bytes.now c.in_ok-check_header.ensures _ c.received-frame.ensures.laid _ c.in_err-check_lists.field-0.0 (search rules) c.in_err-check_lists.ensures;
+  exact = exact g.K.Tally.kind g.K.Tally.laws;
+}
 
 pub returns : goal.returns
-returns g c =
-    let kind = g.K.Tally.kind in
-    let b = c.args.bytes.now in
-    record { judged = ap (verdict kind None) c.parts.ensures ∙ ap₂ (λ o p. verdict kind (or_else o p) (shown kind b)) c.in_default.ensures c.in_default-lists_fault.ensures; exact = exact kind g.K.Tally.laws }
+returns g c = record {
+  judged = accepted g.K.Tally.kind c.args.bytes.now c.in_ok-check_header.ensures _ c.received-frame.ensures.laid c.in_ok-check_lists.ensures c.received-frame.ensures.view;
+  exact = exact g.K.Tally.kind g.K.Tally.laws;
+}

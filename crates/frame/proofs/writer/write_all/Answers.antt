@@ -1,6 +1,5 @@
 use Rattle.std.proofs.Common.{◌≡◌, ◌+◌, ◌*◌, ◌++◌, length, drop, ap, ◌∙◌, append_assoc, arith, length-append, rules}
 use borrow.Rule.Slice.PartMut.{put_mid}
-use Rattle.std.proofs.lemmas.List.{take_all}
 use Rattle.frame_items.specs.Format.{row_bytes, length_row}
 use Rattle.frame_items.specs.Items.{slots, tokens, entries, slots_sound, tokens_sound}
 use Rattle.frame_items.proofs.Writing.{row_after}
@@ -24,7 +23,7 @@ returns g c =
     let p1 : r1 ≡ 17 + length c.args.frame.now.slots.now * 9 = c.write_row-tokens_place.ensures.place in
     let p2 : r2 ≡ r1 + length c.args.frame.now.tokens.now * (10 + kind.width) = c.write_row-entries_place.ensures.place in
     let p3 : r3 ≡ r2 + length c.args.frame.now.entries.now * (5 + kind.width) = c.write_row.ensures.place in
-    let o1 : put_mid 0 17 b c.copy_from_slice.new.self ≡ h ++ drop 17 b = ap (λ z. z ++ drop 17 b) (c.copy_from_slice.ensures.after ∙ take_all 17 h (omega arith)) in
+    let o1 : put_mid 0 17 b c.copy_from_slice.new.self ≡ h ++ drop 17 b = ap (λ z. z ++ drop 17 b) c.copy_from_slice.ensures.after in
     let o2 = c.write_row-tokens_place.ensures.bytes ∙ row_after h s b (put_mid 0 17 b c.copy_from_slice.new.self) 17 r1 long o1 (omega arith) in
     let o3 = c.write_row-entries_place.ensures.bytes ∙ row_after (h ++ s) t b c.write_row-tokens_place.new.out r1 r2 (omega (arith, length-append h s)) o2 (omega arith) in
     let o4 = c.write_row.ensures.bytes ∙ row_after ((h ++ s) ++ t) e b c.write_row-entries_place.new.out r2 r3 (omega (arith, length-append (h ++ s) t, length-append h s)) o3 (omega arith) in

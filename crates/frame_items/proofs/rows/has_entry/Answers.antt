@@ -1,22 +1,13 @@
-use Rattle.std.proofs.Common.{◌≡◌, ◌+◌, ◌-◌, length, drop, sym, ap, ◌∙◌, arith}
-use Rattle.frame_items.proofs.Walking.{found_in, found_here, found_later, found_last, one_item_less}
+use Rattle.std.proofs.Common.{ap, ◌∙◌, eqb, arith, rules, tests}
+use Rattle.std.proofs.lemmas.Iterator.Search.{any_from_yields_List}
+use Rattle.frame_items.specs.Format.{row_of}
+use Rattle.frame_items.specs.Items.{entries, has_entry}
+use Rattle.frame_items.proofs.Walking.{chunks_show, any_has}
 use Rattle.frame_items.proofs.rows.has_entry.Goals as goal
 
-pub returns-then-bytes-at : goal.returns-then-bytes-at
-returns-then-bytes-at g c =
-    sym (sym c.loop-entry.invariant.1 ∙ found_here g.K.Tally.kind c.args.number c.args.bytes.now (c.args.count - c.loop-entry._entry) c.loop-entry.at (omega arith) c.if-bytes-at.true)
-
-pub loop-entry-preserved : goal.loop-entry-preserved
-loop-entry-preserved g c =
-    let kind = g.K.Tally.kind in
-    let b = c.args.bytes.now in
-    let at = c.loop-entry.at in
-    let n = c.args.count in
-    let i = c.loop-entry._entry in
-    let w = 5 + kind.width in
-    let room = one_item_less at n i w (length b) c.loop-entry-test.true c.loop-entry.invariant.0 in
-    let same : at + (5 + c.width-width.result) ≡ at + w = ap (λ k. at + (5 + k)) c.width-width.ensures in
-    (omega (arith, room.1, same), ap (λ k. found_in kind c.args.number (n - (i + 1)) (drop k b)) same ∙ found_later kind c.args.number b (n - i) (n - (i + 1)) at (omega arith) c.if-bytes-at.false ∙ c.loop-entry.invariant.1)
-
 pub returns : goal.returns
-returns g c = found_last g.K.Tally.kind c.args.number c.args.bytes.now (c.args.count - c.loop-entry._entry) c.loop-entry.at (omega arith) ∙ c.loop-entry.invariant.1
+returns g c =
+    let kind = g.K.Tally.kind in
+    let number = c.args.number in
+    any_from_yields_List (λ e. eqb e.number number) _ _ _ c.any.ensures.ran (chunks_show (entries kind) (omega arith) (omega (arith, c.chunks_exact.ensures.size, c.width-width.ensures))) (λ x b q k. search (rules, tests))
+    ∙ any_has number (row_of (entries kind) _) ∙ ap (λ b. has_entry number (row_of (entries kind) b)) c.chunks_exact.ensures.rest

@@ -1,6 +1,7 @@
-use Rattle.std.proofs.Common.{Some, None, sym, refl, ap, ◌∙◌}
+use Rattle.std.proofs.Common.{Some, None, sym, refl, ap, ◌∙◌, arith}
 use Rattle.std.proofs.lemmas.Bool.{lt-ltb, le-ltb, cond-true, cond-false}
 use Rattle.handoff.specs.Taking.{current}
+use Rattle.node.proofs.Places.{place_there}
 use Rattle.node.proofs.Slotting.{drops_to, drops_none}
 use Rattle.node.proofs.slots.drop_slot.Goals as goal
 
@@ -12,3 +13,6 @@ returns-then-slot-frame g c = record { rule = drops_to g.K.Tally.kind c.args.fra
 
 pub returns-else-slot-frame : goal.returns-else-slot-frame
 returns-else-slot-frame g c = record { rule = drops_none g.K.Tally.kind c.args.frame.now c.args.node.now (ap (current _) (sym c.in-Some.ensures) ∙ cond-false _ None (Some c.in-Some.slot) (le-ltb _ _ c.if-slot-frame.false) ∙ c.in-Some.ensures); clocks = (refl, refl) }
+
+pub put-requires : goal.put-requires
+put-requires g c = omega (arith, place_there c.args.node.now.slots.places c.args.frame.now.sender c.in-Some.slot c.in-Some.ensures)

@@ -1,7 +1,7 @@
 use Rattle.std.proofs.Common.{◌≡◌, ◌+◌, length, drop, sym, ap, ◌∙◌, arith, length-drop}
 use Rattle.std.proofs.lemmas.List.{take_rest}
 use Rattle.frame_items.specs.Items.{fault_of}
-use Rattle.frame_items.proofs.tallies.tally_fault.Goals as goal
+use Rattle.frame_items.proofs.tallies.check_tally.Goals as goal
 
 pub overflow_add-result-in-Err : goal.overflow_add-result-in-Err
 overflow_add-result-in-Err g c =
