@@ -1,7 +1,7 @@
 //! Tallies in words.
 ghost use Rattle.std.specs.Iterator.{IsFinite};
 
-use bands::Bounds;
+use bands::bounds::Bounds;
 use movements::Movements;
 use movements::pair::Pair;
 use std::fmt;
