@@ -17,8 +17,9 @@ pub fn check_row<I: Item>(row: &[u8], sender: u8, place: usize) -> Result<(), Fr
     let width = I::width();
     let mut before = 0;
     for (index, item) in row.chunks_exact(width).enumerate() {
+        let rank = I::rank(item);
         I::check(item, sender, before, place + index * width)?;
-        before = I::rank(item);
+        before = rank;
     }
     Ok(())
 }

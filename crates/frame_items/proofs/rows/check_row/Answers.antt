@@ -15,7 +15,7 @@ loop-index-preserved g c =
       search rules,
       tt,
       search rules,
-      walk_on _ _ _ _ _ _ _ was.3 _ _ _ _ step.1 was.2 (c.width-width.ensures c.args.sender) was.0.0 step.0.1.0 step.0.1.1 _ _ step.2 c.in_ok-check.ensures (c.rank-before.ensures c.args.sender),
+      walk_on _ _ _ _ _ _ _ was.3 _ _ _ _ step.1 was.2 (c.width-width.ensures c.args.sender) was.0.0 step.0.1.0 step.0.1.1 _ _ step.2 c.in_ok-check.ensures (c.rank-rank.ensures c.args.sender),
     )
 
 pub returns : goal.returns
