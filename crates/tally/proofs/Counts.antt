@@ -1,8 +1,8 @@
 -- What the loops over the bands keep, and what they end with.
-use Rattle.std.proofs.Common.{◌≡◌, ℕ, ◌+◌, ◌-◌, ◌*◌, ◌<◌, ◌≤◌, true, false, cond, eqb, leb, List, [], ◌++◌, length, get_or, take, drop, set, replicate, sym, refl, ap, ◌∙◌, ap₂, ⊎_elim, append-nil, arith, length-drop}
+use Rattle.std.proofs.Common.{◌≡◌, ℕ, ◌+◌, ◌-◌, ◌*◌, ◌<◌, ◌≤◌, true, false, cond, eqb, leb, List, [], ◌++◌, length, get_or, take, drop, set, replicate, sym, refl, ap, ◌∙◌, ap₂, ⊎_elim, arith, length-drop}
 use borrow.Rule.Slice.PartMut.{put_mid}
 use Rattle.std.specs.List.{flat_map}
-use Rattle.std.proofs.lemmas.List.{get_or-set_same, get_or-set_other, get_or-replicate, take_more, take_all, drop-drop, drop_all, length-take-le, flat_map_more}
+use Rattle.std.proofs.lemmas.List.{get_or-set_same, get_or-set_other, get_or-replicate, take_more, drop-drop, length-take-le, flat_map_more}
 use Rattle.std.specs.List.Sorted.{IsPartitionedBy, IsPartitionPoint}
 use Rattle.std.proofs.lemmas.Grind.{get_or_default_zero}
 use Rattle.std.proofs.lemmas.Bool.{eq-eqb, ne_eqb, cases_eq, cases_lt, le-leb, leb-true, leb-false}
@@ -42,6 +42,3 @@ write_more ns before out i h l e =
     let n : length front ≡ 4 * i = omega (arith, length_fours (take i ns), length-take-le i ns (omega arith)) in
     ap (λ z. put_mid (4 * i) 4 z next) e ∙ put_next front (drop (4 * i) before) next (4 * i) 4 n refl (omega (arith, length-drop (4 * i) before))
     ∙ ap₂ ◌++◌ (sym (fours_more ns i h)) (drop-drop 4 (4 * i) before ∙ ap (λ k. drop k before) (omega arith))
-
-pub write_all : (ns before out : List ℕ) (i : ℕ) → length ns ≡ 16 → length before ≡ 64 → i ≡ 16 → out ≡ flat_map four_bytes (take i ns) ++ drop (4 * i) before → out ≡ flat_map four_bytes ns
-write_all ns before out i l m h e = e ∙ ap₂ (λ y z. flat_map four_bytes y ++ z) (take_all i ns (omega arith)) (drop_all (4 * i) before (omega arith)) ∙ append-nil _

@@ -48,18 +48,6 @@ impl Queues {
         counts[band] = 1;
         Queues::of(counts)
     }
-
-    // The tally that sixty-four bytes write.
-    fn of_bytes(bytes: &[u8]) -> Queues
-        requires { length bytes.now ≡ 64 }
-        ensures { result ≡ by_band (written_in bytes.now) }
-    {
-        let mut counts = [0; 16];
-        for (band, count) in counts.iter_mut().enumerate() {
-            *count = u32::read_at(bytes, 4 * band);
-        }
-        Queues::of(counts)
-    }
 }
 
 impl Tally for Queues {
@@ -98,6 +86,10 @@ impl Tally for Queues {
     }
 
     fn read(bytes: &[u8]) -> Result<Queues, Fault> {
-        Ok(Queues::of_bytes(bytes))
+        let mut counts = [0; 16];
+        for (band, count) in counts.iter_mut().enumerate() {
+            *count = u32::read_at(bytes, 4 * band);
+        }
+        Ok(Queues::of(counts))
     }
 }

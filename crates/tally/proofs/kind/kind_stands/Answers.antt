@@ -1,5 +1,5 @@
-use Rattle.tally.specs.Totals.{total, one_writing}
+use Rattle.tally.specs.Totals.{total}
 use Rattle.tally.proofs.kind.kind_stands.Goals as goal
 
-pub returns : goal.returns
-returns g c = record { total = total g.K.Tally.laws; writing = one_writing g.K.Tally.laws }
+pub returns-clause-total : goal.returns-clause-total
+returns-clause-total g c = total g.K.Tally.laws

@@ -1,9 +1,5 @@
-use Rattle.std.proofs.Common.{refl}
-use Rattle.movements.specs.Join.{empty, movements_same}
+use Rattle.movements.specs.Join.{empty}
 use Rattle.movements.proofs.kind.MovementsTally.empty.Goals as goal
 
 pub invariant_of-result : goal.invariant_of-result
 invariant_of-result c = record { full = empty.full; small = empty.small; faultless = empty.faultless; fits = empty.fits }
-
-pub returns : goal.returns
-returns c = movements_same _ _ refl refl
