@@ -57,6 +57,7 @@ impl Table {
     }
 
     /// The row of a band.
+    // No iterator over the rows: its type would need ghost members of its own, for the one caller.
     pub fn row(&self, band: usize) -> Option<Row>
         ensures { MatchOption result (16 ≤ band) (RowOf self.now band) }
     {

@@ -2,6 +2,7 @@
 use protocol::records::{Entry, SourceSlot, Token};
 
 /// What a frame is to carry; its lists are lent.
+// The six fields of a received frame's header again: in one struct for both they would be read as `frame.header.sender` everywhere, to save one copy.
 #[derive(Clone, Copy)]
 pub struct Outgoing<'a, K> {
     pub sender: u8,

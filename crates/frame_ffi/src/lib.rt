@@ -84,6 +84,7 @@ fn rewritten<K: Tally>(
     write(&outgoing, out).unwrap_or(0)
 }
 
+// A function for each kind, since C has no type parameters.
 #[unsafe(no_mangle)]
 pub extern "C" fn frame_verdict_vehicles(bytes: &[u8]) -> u8 {
     verdict::<Vehicles>(bytes)

@@ -3,7 +3,8 @@ ghost use Rattle.std.specs.Prelude.{◌≡◌};
 ghost use Rattle.frame_logs.specs.Counts.{one_more, highest};
 ghost use Rattle.frame_logs.specs.Runs.{CountsStand};
 
-/// A source clock and a destination clock.
+/// A source clock and a destination clock, the highest that were seen.
+// No `Slot`: that is a promise which was made once, with both clocks of one moment.
 #[derive(Clone, Copy, PartialEq, Eq, Debug)]
 pub struct Clocks {
     pub source: u32,

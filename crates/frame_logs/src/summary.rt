@@ -50,6 +50,7 @@ impl Summary {
     {
         self.frames = self.frames.saturating_add(1);
         let place = usize::from(sender);
+        // The index is tested, since a proof learns nothing of what is written through `get_mut`.
         if place < NUMBERS {
             self.senders[place] = Some(higher(self.senders[place], clocks));
         }

@@ -3,6 +3,7 @@ use std::io;
 use thiserror::Error;
 
 /// Why the comparison cannot go on.
+// Not the log reader's errors: it has four that cannot come here, and lacks the first.
 #[derive(Debug, Drop, Error)]
 pub enum Failure {
     #[error("a line is no frame with a verdict")]

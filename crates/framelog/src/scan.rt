@@ -17,7 +17,7 @@ use tally::kind::Tally;
 /// What the logs showed so far.
 #[derive(Drop)]
 pub struct Scan {
-    /// Whether each line is told in full.
+    /// Whether each line is told in full: a yes or no, with no value beside it.
     in_full: bool,
     /// Whether each log so far was read to its end.
     pub all_read: bool,

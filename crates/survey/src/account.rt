@@ -19,9 +19,11 @@ pub struct Totals {
 }
 
 fn tell_counts(rt: &HostRuntime, figures: &Figures) -> io::Result<()> {
-    let taken = Count::of(figures.taken);
-    let refused = Count::of(figures.refused);
-    println!(rt; "  observations taken: {taken}, lines refused: {refused}")
+    println!(rt;
+        "  observations taken: {}, lines refused: {}",
+        Count::of(figures.taken),
+        Count::of(figures.refused)
+    )
 }
 
 // Padding goes by a text's length, so each part of the row is made a text first.

@@ -73,7 +73,7 @@ fn end(rt: &HostRuntime, source: &mut Source) -> io::Result<()>
     Ok(())
 }
 
-// Reads a source to its end or up to an error; an error in telling a refused line is another matter.
+// Reads a source to its end or up to an error, past interruptions (so no loop in common with the log reader, which stops at any error); an error in telling a refused line is another matter.
 fn read_all<R: Read>(
     rt: &HostRuntime,
     input: &mut R,

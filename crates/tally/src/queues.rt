@@ -1,11 +1,8 @@
 //! The kind `queues`: sixteen counts, one for each band of queue lengths.
 mod banded;
 
-ghost use Rattle.std.specs.Prelude.{◌≡◌, ℕ, ◌+◌, ◌*◌, ◌<◌, length, ◌==◌, nat_le, slice_index};
-ghost use borrow.Rule.Slice.PartMut.{put_mid};
-ghost use Rattle.big_endian.specs.BigEndian.{four_bytes};
-ghost use Rattle.tally.specs.declared.queues.banded.Queues.{Queues};
-ghost use Rattle.tally.specs.Queues.{edges, stop, by_band, written_in, queues, queues_lawful, band_of, one_in, observed_queue, count_in, LastBand};
+ghost use Rattle.std.specs.Prelude.{◌≡◌, ℕ, ◌<◌, slice_index};
+ghost use Rattle.tally.specs.Queues.{stop, by_band, queues, queues_lawful, band_of, one_in, observed_queue, LastBand};
 
 use crate::fault::Fault;
 use crate::kind::Tally;
@@ -25,6 +22,7 @@ pub fn band(length: u32) -> usize
 
 impl Queues {
     /// The tally with these counts, one for each band.
+    // No `From`: the name says what is made, and its contract stands at each call.
     pub fn of(counts: [u32; 16]) -> Queues
         ensures counts { result.counts ≡ counts }
         ensures only { (f : ℕ → ℕ) → ((band : ℕ) → band < 16 → slice_index counts band ≡ stop (f band)) → result ≡ by_band f }

@@ -13,6 +13,7 @@ pub use counted::Vehicles;
 
 impl Vehicles {
     /// The tally of so many vehicles.
+    // No `From`: the name says what is made, and its contract stands at each call.
     pub fn of(count: u64) -> Vehicles
         ensures count { result.count ≡ count }
         ensures only { (x : Vehicles) → x.count ≡ count → result ≡ x }
