@@ -5,6 +5,7 @@ ghost use Rattle.bands.specs.Count.{Means, exact};
 use std::fmt;
 
 /// A counter that stops at a largest number.
+// `number` and no `Into<u64>`: the contract of `Count::of` speaks of the number that is shown.
 pub trait Counter: Copy {
     /// Where it stops.
     const STOP: u64;

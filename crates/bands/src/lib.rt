@@ -6,3 +6,9 @@ pub mod bounds;
 pub mod count;
 pub mod share;
 pub mod table;
+
+pub use bar::{Bar, WIDTH};
+pub use bounds::Bounds;
+pub use count::{Count, Counter};
+pub use share::Share;
+pub use table::{Row, Table};

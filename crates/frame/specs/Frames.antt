@@ -64,9 +64,12 @@ module _ {V : Type 0} (kind : Kind V) where
     pub own_entry : f.tier ≡ 0 → has_entry f.sender f.entry_list ≡ true
 
   -- its writing: the header, with the counts of its lists, and then the lists
+  abbrev pub header_with : Frame V → ℕ → ℕ → ℕ → List ℕ
+  header_with f slot_count token_count entry_count =
+      1 ∷ kind.code ∷ f.sender ∷ f.tier ∷ f.addressee ∷ cond f.holds 1 0 ∷ (four_bytes f.source_clock ++ (four_bytes f.destination_clock ++ (slot_count ∷ token_count ∷ entry_count ∷ [])))
+
   abbrev pub header_bytes : Frame V → List ℕ
-  header_bytes f =
-      1 ∷ kind.code ∷ f.sender ∷ f.tier ∷ f.addressee ∷ cond f.holds 1 0 ∷ (four_bytes f.source_clock ++ (four_bytes f.destination_clock ++ (length f.slot_list ∷ length f.token_list ∷ length f.entry_list ∷ [])))
+  header_bytes f = header_with f (length f.slot_list) (length f.token_list) (length f.entry_list)
 
   unfoldable pub frame_bytes : Frame V → List ℕ
   frame_bytes f = header_bytes f ++ (row_bytes (slots f.sender) f.slot_list ++ (row_bytes (tokens kind) f.token_list ++ row_bytes (entries kind) f.entry_list))

@@ -33,7 +33,7 @@ fn opening<K: Tally>(bytes: &[u8]) -> Result<&[u8; 17], FrameFault>
 fn is_number(number: u8) -> bool
     ensures { result ≡ is_number number }
 {
-    1 <= number && number <= NODES_MAX
+    (1..=NODES_MAX).contains(&number)
 }
 
 // Sender, addressee and tier.

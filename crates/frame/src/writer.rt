@@ -2,18 +2,22 @@
 ghost use Rattle.std.specs.Prelude.{◌≡◌, ℕ, ◌+◌, ◌*◌, ◌<◌, ◌≤◌, ◌++◌, length, drop};
 ghost use Rattle.frame_items.specs.Format.{row_bytes};
 ghost use Rattle.frame_items.specs.Items.{slots, tokens, entries};
-ghost use Rattle.frame.specs.Frames.{header_bytes, Exact};
-ghost use Rattle.frame.specs.Written.{carried, written_length, Few, Written};
+ghost use Rattle.frame.specs.Frames.{header_with, Exact};
+ghost use Rattle.frame.specs.Written.{carried, written_length, Written};
 
 use crate::header::{EDITION, counted_length};
 use crate::outgoing::{Outgoing, Unwritten};
 use frame_items::rows::write_row;
 use tally::kind::Tally;
 
-// The first bytes of a frame, with the counts of its lists: in the order of the format, one by one.
-fn header_bytes<K: Tally>(frame: &Outgoing<'_, K>) -> [u8; 17]
-    requires { Few (carried frame.now) }
-    ensures { result ≡ header_bytes K.kind (carried frame.now) }
+/// The first bytes of a frame, with these counts of its lists: in the order of the format, one by one.
+pub fn header_bytes<K: Tally>(
+    frame: &Outgoing<'_, K>,
+    slots: u8,
+    tokens: u8,
+    entries: u8,
+) -> [u8; 17]
+    ensures { result ≡ header_with K.kind (carried frame.now) slots tokens entries }
 {
     let [s0, s1, s2, s3] = frame.source_clock.to_be_bytes();
     let [d0, d1, d2, d3] = frame.destination_clock.to_be_bytes();
@@ -32,9 +36,9 @@ fn header_bytes<K: Tally>(frame: &Outgoing<'_, K>) -> [u8; 17]
         d1,
         d2,
         d3,
-        frame.slots.len() as u8,
-        frame.tokens.len() as u8,
-        frame.entries.len() as u8,
+        slots,
+        tokens,
+        entries,
     ]
 }
 
@@ -55,12 +59,14 @@ pub fn write<K: Tally>(frame: &Outgoing<'_, K>, out: &mut [u8]) -> Result<usize,
     ensures written { Written K.kind (carried frame.now) out.old out.new result }
     ensures exact { Exact K.kind }
 {
-    if frame.slots.len() > 15 || frame.tokens.len() > 8 || frame.entries.len() > 4 {
+    let slots = frame.slots.len();
+    let tokens = frame.tokens.len();
+    let entries = frame.entries.len();
+    if slots > 15 || tokens > 8 || entries > 4 {
         return Err(Unwritten::TooMany);
     }
-    let header = header_bytes(frame);
-    let [.., slots, tokens, entries] = header;
-    if out.len() < counted_length::<K>(slots, tokens, entries) {
+    let header = header_bytes(frame, slots as u8, tokens as u8, entries as u8);
+    if out.len() < counted_length::<K>(slots as u8, tokens as u8, entries as u8) {
         return Err(Unwritten::TooShort);
     }
     Ok(write_all(&header, frame, out))

@@ -2,7 +2,7 @@
 #![tactic(auto)]
 
 ghost use Rattle.std.specs.Prelude.{◌≡◌};
-ghost use Rattle.std.specs.Option.{option_map_or};
+ghost use Rattle.std.specs.Option.{option_map};
 ghost use Rattle.std.specs.Result.{result_err};
 ghost use Rattle.protocol.specs.Refusals.{condition_number};
 ghost use Rattle.frame.specs.Frames.{judge};
@@ -18,14 +18,11 @@ use tally::kind::Tally;
 use tally::queues::Queues;
 use tally::vehicles::Vehicles;
 
-// The number of the condition that a frame fails, or 0.
-fn verdict<K: Tally>(bytes: &[u8]) -> u8
-    ensures { result ≡ option_map_or (λ fault. condition_number fault.condition) (result_err (judge K.kind bytes.now)) 0 }
+// The number of the condition that a frame fails.
+fn verdict<K: Tally>(bytes: &[u8]) -> Option<u8>
+    ensures { result ≡ option_map (λ fault. condition_number fault.condition) (result_err (judge K.kind bytes.now)) }
 {
-    match read::<K>(bytes) {
-        Ok(_) => 0,
-        Err(fault) => fault.condition.number(),
-    }
+    read::<K>(bytes).err().map(|fault| fault.condition.number())
 }
 
 // Takes the items of a part apart into places, as many as there are.
@@ -55,16 +52,14 @@ fn no_entry<K: Tally>() -> Entry<K> {
     }
 }
 
-// Takes a frame of a kind apart into its items and writes it anew; the length, or 0. Tokens and entries go in lent places, since the room that an array of them takes must be known.
+// Takes a frame of a kind apart into its items and writes it anew, and answers the length. Tokens and entries go in lent places, since the room that an array of them takes must be known.
 fn rewritten<K: Tally>(
     bytes: &[u8],
     tokens: &mut [Token<K>],
     entries: &mut [Entry<K>],
     out: &mut [u8],
-) -> usize {
-    let Ok(frame) = read::<K>(bytes) else {
-        return 0;
-    };
+) -> Option<usize> {
+    let frame = read::<K>(bytes).ok()?;
     let slot = Slot {
         source_clock: 0,
         destination_clock: 0,
@@ -81,42 +76,42 @@ fn rewritten<K: Tally>(
         tokens: unpacked(&frame.tokens, tokens),
         entries: unpacked(&frame.entries, entries),
     };
-    write(&outgoing, out).unwrap_or(0)
+    write(&outgoing, out).ok()
 }
 
 // A function for each kind, since C has no type parameters.
 #[unsafe(no_mangle)]
 pub extern "C" fn frame_verdict_vehicles(bytes: &[u8]) -> u8 {
-    verdict::<Vehicles>(bytes)
+    verdict::<Vehicles>(bytes).unwrap_or(0)
 }
 
 #[unsafe(no_mangle)]
 pub extern "C" fn frame_verdict_queues(bytes: &[u8]) -> u8 {
-    verdict::<Queues>(bytes)
+    verdict::<Queues>(bytes).unwrap_or(0)
 }
 
 #[unsafe(no_mangle)]
 pub extern "C" fn frame_verdict_movements(bytes: &[u8]) -> u8 {
-    verdict::<Movements>(bytes)
+    verdict::<Movements>(bytes).unwrap_or(0)
 }
 
 #[unsafe(no_mangle)]
 pub extern "C" fn frame_rewrite_vehicles(bytes: &[u8], out: &mut [u8]) -> usize {
     let mut tokens = [no_token::<Vehicles>(); 8];
     let mut entries = [no_entry::<Vehicles>(); 4];
-    rewritten(bytes, &mut tokens, &mut entries, out)
+    rewritten(bytes, &mut tokens, &mut entries, out).unwrap_or(0)
 }
 
 #[unsafe(no_mangle)]
 pub extern "C" fn frame_rewrite_queues(bytes: &[u8], out: &mut [u8]) -> usize {
     let mut tokens = [no_token::<Queues>(); 8];
     let mut entries = [no_entry::<Queues>(); 4];
-    rewritten(bytes, &mut tokens, &mut entries, out)
+    rewritten(bytes, &mut tokens, &mut entries, out).unwrap_or(0)
 }
 
 #[unsafe(no_mangle)]
 pub extern "C" fn frame_rewrite_movements(bytes: &[u8], out: &mut [u8]) -> usize {
     let mut tokens = [no_token::<Movements>(); 8];
     let mut entries = [no_entry::<Movements>(); 4];
-    rewritten(bytes, &mut tokens, &mut entries, out)
+    rewritten(bytes, &mut tokens, &mut entries, out).unwrap_or(0)
 }

@@ -33,14 +33,14 @@ impl<K: Tally> Item for Entry<K> {
         require(may_follow, Condition::Numbers, place)?;
         let version_within = u32::read_at(bytes, 1) <= CLOCK_MAX;
         require(version_within, Condition::ItemClock, place + 1)?;
-        check_tally::<K>(bytes, 5, place)
+        check_tally::<K>(&bytes[5..], place + 5)
     }
 
     fn shown(bytes: &[u8]) -> Entry<K> {
         Entry {
             number: bytes[0],
             version: u32::read_at(bytes, 1),
-            tally: tally_shown::<K>(bytes, 5),
+            tally: tally_shown::<K>(&bytes[5..]),
         }
     }
 

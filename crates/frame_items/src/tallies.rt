@@ -1,5 +1,5 @@
 //! The tally at the end of an item.
-ghost use Rattle.std.specs.Prelude.{◌≡◌, ◌+◌, ◌≤◌, ◌++◌, length, take, drop};
+ghost use Rattle.std.specs.Prelude.{◌≡◌, ◌+◌, ◌≤◌, ◌++◌, length, take};
 ghost use Rattle.std.specs.Result.{result_err};
 ghost use Rattle.protocol.specs.Limits.{frame_bytes_max};
 ghost use Rattle.frame_items.specs.Items.{tally_fault, tally_shown};
@@ -7,29 +7,28 @@ ghost use Rattle.frame_items.specs.Items.{tally_fault, tally_shown};
 use protocol::refusal::{Condition, FrameFault};
 use tally::kind::Tally;
 
-// Judges an item's tally, which begins so far behind the item's place in the frame.
-pub fn check_tally<K: Tally>(item: &[u8], from: usize, place: usize) -> Result<(), FrameFault>
-    requires width { length item.now ≡ from + K.kind.width }
-    requires within { place ≤ frame_bytes_max }
-    requires header { from ≤ 10 }
-    ensures { result_err result ≡ tally_fault K.kind (place + from) (drop from item.now) }
+// Judges the bytes of a tally at a place of a frame.
+pub fn check_tally<K: Tally>(bytes: &[u8], place: usize) -> Result<(), FrameFault>
+    requires width { length bytes.now ≡ K.kind.width }
+    requires within { place ≤ frame_bytes_max + 10 }
+    ensures { result_err result ≡ tally_fault K.kind place bytes.now }
 {
-    match K::read(&item[from..]) {
+    match K::read(bytes) {
         Ok(_) => Ok(()),
         Err(fault) => Err(FrameFault {
             condition: Condition::Tally(fault.number),
-            place: place + from + fault.place,
+            place: place + fault.place,
         }),
     }
 }
 
-// The tally that an item shows; of unlawful bytes, the empty one.
-pub fn tally_shown<K: Tally>(item: &[u8], from: usize) -> K
-    requires { length item.now ≡ from + K.kind.width }
-    ensures { result ≡ tally_shown K.kind (drop from item.now) }
+// The tally that bytes show; of unlawful bytes, the empty one.
+pub fn tally_shown<K: Tally>(bytes: &[u8]) -> K
+    requires { length bytes.now ≡ K.kind.width }
+    ensures { result ≡ tally_shown K.kind bytes.now }
 {
     // By `unwrap_or_else` the tally is copied once more, and taking a frame apart is a fifth slower.
-    match K::read(&item[from..]) {
+    match K::read(bytes) {
         Ok(tally) => tally,
         Err(_) => K::empty(),
     }

@@ -53,7 +53,7 @@ impl<K: Tally> Item for Token<K> {
         require(source_within, Condition::ItemClock, place + 2)?;
         let destination_within = u32::read_at(bytes, 6) <= CLOCK_MAX;
         require(destination_within, Condition::ItemClock, place + 6)?;
-        check_tally::<K>(bytes, 10, place)
+        check_tally::<K>(&bytes[10..], place + 10)
     }
 
     fn shown(bytes: &[u8]) -> Token<K> {
@@ -62,7 +62,7 @@ impl<K: Tally> Item for Token<K> {
             destination: bytes[1],
             source_clock: u32::read_at(bytes, 2),
             destination_clock: u32::read_at(bytes, 6),
-            tally: tally_shown::<K>(bytes, 10),
+            tally: tally_shown::<K>(&bytes[10..]),
         }
     }
 

@@ -1,7 +1,7 @@
 //! Rows of counts, and highest clocks.
 ghost use Rattle.std.specs.Prelude.{◌≡◌};
-ghost use Rattle.frame_logs.specs.Counts.{one_more, highest};
-ghost use Rattle.frame_logs.specs.Runs.{CountsStand};
+ghost use Rattle.frame_logs.specs.Counts.{one_more, highest, raised};
+ghost use Rattle.frame_logs.specs.Runs.{CountsStand, HighestStands};
 
 /// A source clock and a destination clock, the highest that were seen.
 // No `Slot`: that is a promise which was made once, with both clocks of one moment.
@@ -32,5 +32,16 @@ pub fn higher(before: Option<Clocks>, clocks: Clocks) -> Clocks
             source: known.source.max(clocks.source),
             destination: known.destination.max(clocks.destination),
         },
+    }
+}
+
+/// Raises the clocks at an index to these, where the row has it and they are higher. (No generic function with `count_one`: its contract would speak of the calls of a closure.)
+#[tactic(auto, using(crate::specs::Runs::highest_stands))]
+pub fn raise(row: &mut [Option<Clocks>], index: usize, clocks: Clocks)
+    ensures after { row.new ≡ raised row.old index clocks }
+    ensures stand { HighestStands }
+{
+    if index < row.len() {
+        row[index] = Some(higher(row[index], clocks));
     }
 }

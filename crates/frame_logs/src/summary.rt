@@ -5,7 +5,7 @@ ghost use Rattle.frame_logs.specs.Counts.{count_between};
 ghost use Rattle.frame_logs.specs.Runs.{HighestStands, PairsStand};
 ghost use Rattle.frame_logs.specs.Summaries.{blank, with_frame, with_token, with_refusal, with_no_hexadecimal};
 
-use crate::counts::{Clocks, count_one, higher};
+use crate::counts::{Clocks, count_one, raise};
 use protocol::limits::NODES_MAX;
 use protocol::refusal::Condition;
 
@@ -49,11 +49,7 @@ impl Summary {
         ensures stand { HighestStands }
     {
         self.frames = self.frames.saturating_add(1);
-        let place = usize::from(sender);
-        // The index is tested, since a proof learns nothing of what is written through `get_mut`.
-        if place < NUMBERS {
-            self.senders[place] = Some(higher(self.senders[place], clocks));
-        }
+        raise(&mut self.senders, usize::from(sender), clocks);
     }
 
     /// Counts a token that a frame showed.

@@ -8,7 +8,7 @@ use std::fmt;
 use tally::queues::Queues;
 use tally::vehicles::Vehicles;
 
-/// A tally that can be told in words. (The tallies are of other crates, so `Display` cannot be written for them here.)
+/// A tally that can be told in words. (The tallies are of other crates, so `Display` cannot be written for them here; and a bound `K: Told` says more than one on `InWords<K>`.)
 pub trait Told {
     fn tell<W: fmt::Write>(&self, f: &mut fmt::Formatter<W>) -> fmt::Result;
 }

@@ -18,6 +18,7 @@ impl fmt::Display for Place<'_> {
     }
 }
 
+// Functions, here and below, and no types that print themselves: each is printed at one place, and a type would only hold a reference.
 fn print_slot(rt: &HostRuntime, slot: &SourceSlot) -> io::Result<()> {
     println!(rt;
         "    slot for source {}: source clock {}, destination clock {}",

@@ -46,6 +46,7 @@ fn print_account<K: Tally + Told>(rt: &HostRuntime, account: &Account) -> Result
 fn run(rt: &HostRuntime) -> Result<(), Failure> {
     match request::of_words(rt.alloc(), env::args(rt)?)? {
         Request::Help => Ok(print!(rt; "{HELP}")?),
+        // Picks the type of the tallies.
         Request::Account(account) => match account.kind {
             Kind::Vehicles => print_account::<Vehicles>(rt, &account),
             Kind::Queues => print_account::<Queues>(rt, &account),

@@ -19,6 +19,7 @@ fn print_refusals(rt: &HostRuntime, summary: &Summary) -> io::Result<()> {
 }
 
 fn print_senders(rt: &HostRuntime, summary: &Summary) -> io::Result<()> {
+    // Over the numbers themselves, here and below: they are asked for and printed.
     for sender in 1..=NODES_MAX {
         if let Some(clocks) = summary.highest_of(sender) {
             println!(rt;

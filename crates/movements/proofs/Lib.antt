@@ -1,5 +1,4 @@
 pub mod Lawful
 pub mod Walk
 pub mod Octets
-pub mod Made
 pub mod Asking

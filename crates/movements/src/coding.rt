@@ -1,7 +1,7 @@
 ghost use Rattle.std.specs.Prelude.{◌≡◌, ◌<◌, length};
 ghost use Rattle.std.specs.Result.{result_err};
 ghost use Rattle.std.specs.Option.{option_map};
-ghost use Rattle.movements.specs.Coding.{pair_at, pairs_in, rest_in, with_pair_at, reported};
+ghost use Rattle.movements.specs.Coding.{pair_at, pairs_in, with_pair_at, reported};
 ghost use Rattle.movements.specs.Faults.{fault_of, first_fault};
 
 use crate::fault::check_pair;
@@ -19,14 +19,6 @@ pub fn pairs_in(bytes: &[u8]) -> [Pair; PAIRS]
         key: u32::read_at(bytes, 8 * index),
         count: u32::read_at(bytes, 8 * index + 4),
     })
-}
-
-/// The rest that bytes write.
-pub fn rest_in(bytes: &[u8]) -> u32
-    requires { length bytes.now ≡ 132 }
-    ensures { result ≡ rest_in bytes.now }
-{
-    u32::read_at(bytes, 128)
 }
 
 /// Writes one of the sixteen pairs, the key before the count; the other bytes stay.

@@ -3,35 +3,26 @@ ghost use Rattle.std.specs.Result.{result_err};
 ghost use Rattle.movements.specs.Faults.{number, Numbered, fault_of};
 
 use crate::pair::Pair;
-use std::fmt;
+use thiserror::Error;
 
 /// What is wrong with a pair.
-#[derive(Clone, Copy, PartialEq, Eq, Debug)]
+#[derive(Clone, Copy, PartialEq, Eq, Debug, Error)]
 pub enum PairFault {
-    /// Of its key and its count one is 0 and the other is not.
+    #[error("of a key and its count, one is 0 and the other is not")]
     HalfUsed = 40,
-    /// It is used, and stands after an unused one.
+    #[error("a used pair stands after an unused one")]
     AfterUnused = 41,
-    /// It is used, and its key is not above the key before.
+    #[error("the keys do not rise")]
     NotRising = 42,
 }
 
 impl PairFault {
     /// The number that a reader reports.
+    // A method, as every refusal has one for its number.
     pub fn number(self) -> u8
         ensures { result ≡ number self }
     {
         self as u8
-    }
-}
-
-impl fmt::Display for PairFault {
-    fn fmt<W: fmt::Write>(&self, f: &mut fmt::Formatter<W>) -> fmt::Result {
-        f.write_str(match self {
-            PairFault::HalfUsed => "of a key and its count, one is 0 and the other is not",
-            PairFault::AfterUnused => "a used pair stands after an unused one",
-            PairFault::NotRising => "the keys do not rise",
-        })
     }
 }
 

@@ -41,7 +41,7 @@ pub fn after(pairs: &[Pair], key: u32) -> &[Pair]
 }
 
 /// What a join has gathered so far, from the smallest key on: the first sixteen pairs are kept, and the counts of all others go to the rest.
-// A length beside an array: tallies are copied, and lists that know their length are not.
+// A length beside an array: its sixteen places, the unused ones zeros already, are those of the tally that comes of it.
 #[derive(Clone, Copy)]
 pub struct Gathered {
     pub pairs: [Pair; PAIRS],

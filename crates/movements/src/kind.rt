@@ -2,7 +2,7 @@ ghost use Rattle.std.specs.Prelude.{◌≡◌, ◌==◌, position};
 ghost use Rattle.movements.specs.Kind.{movements, movements_lawful};
 ghost use Rattle.movements.specs.Pairs.{used};
 
-use crate::coding::{check_pairs, pairs_in, put_pair, rest_in};
+use crate::coding::{check_pairs, pairs_in, put_pair};
 use crate::join::{Gathered, after, least};
 use crate::kept::Movements;
 use crate::pair::{PAIRS, Pair};
@@ -77,7 +77,7 @@ impl Tally for Movements {
         check_pairs(&pairs)?;
         Ok(Movements {
             pairs,
-            rest: rest_in(bytes),
+            rest: u32::read_at(bytes, 128),
         })
     }
 }

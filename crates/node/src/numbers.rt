@@ -1,6 +1,7 @@
 use protocol::records::Slot;
 
 /// The slot of each number, if there is one.
+// A fixed array: a node uses no heap.
 #[derive(Clone, Copy)]
 pub struct Slots {
     pub places: [Option<Slot>; 16],

@@ -16,11 +16,7 @@ impl Slots {
     pub fn get(&self, number: u8) -> Option<Slot>
         ensures { result ≡ by_number self.now.places number }
     {
-        let place = usize::from(number);
-        if place == 0 || place > self.places.len() {
-            return None;
-        }
-        self.places[place - 1]
+        *self.places.get(usize::from(number).checked_sub(1)?)?
     }
 
     /// Sets or removes the slot for a number.

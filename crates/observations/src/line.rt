@@ -3,24 +3,17 @@ ghost use Rattle.std.specs.Prelude.{◌≡◌, ℕ, ◌+◌, ◌*◌, List, [], 
 ghost use Rattle.observations.specs.Line.{Says};
 ghost use Rattle.observations.specs.Reader.{Marks, Has, amount_of, after_blank, after_digit};
 
-use std::fmt;
+use thiserror::Error;
 
 /// Why a line is refused.
-#[derive(Clone, Copy, PartialEq, Eq, Debug)]
+#[derive(Clone, Copy, PartialEq, Eq, Debug, Error)]
 pub enum LineFault {
     /// The line is not blanks, digits, blanks.
+    #[error("not a number")]
     NotANumber,
     /// The digits write a number above the largest length.
+    #[error("above 4294967295")]
     TooLarge,
-}
-
-impl fmt::Display for LineFault {
-    fn fmt<W: fmt::Write>(&self, f: &mut fmt::Formatter<W>) -> fmt::Result {
-        match self {
-            LineFault::NotANumber => write!(f, "not a number"),
-            LineFault::TooLarge => write!(f, "above 4294967295"),
-        }
-    }
 }
 
 /// What a byte is to a line.

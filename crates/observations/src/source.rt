@@ -38,6 +38,7 @@ impl Source {
     }
 
     /// Takes the next byte. A newline ends the line, which is given back where it is refused.
+    // An `Option`, here and below: most bytes end no line, and a line that is refused is no failure of the source.
     pub fn take(&mut self, byte: u8) -> Option<RefusedLine>
         ensures { (text : List ℕ) → SoFar text self.old → SoFar (text ++ byte ∷ []) self.new × Answered text byte result }
     {

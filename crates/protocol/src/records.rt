@@ -1,7 +1,7 @@
 //! The records that nodes keep and frames carry.
 
 /// A promise to take one handoff of a source: the source's clock, and the destination's when it was made.
-// The two clocks are fields wherever they occur: nothing takes them apart from the record that they stand in.
+// Two fields and no pair of clocks, here and in tokens, headers and nodes: they are of other moments each, and each is asked for by its name.
 #[derive(Clone, Copy, PartialEq, Eq, Debug)]
 pub struct Slot {
     pub source_clock: u32,

@@ -18,6 +18,7 @@ pub struct Totals {
     unread: u64,
 }
 
+// Functions, here and below, and no types that print themselves: each is told at one place, and a type would only hold a reference.
 fn tell_counts(rt: &HostRuntime, figures: &Figures) -> io::Result<()> {
     println!(rt;
         "  observations taken: {}, lines refused: {}",

@@ -15,6 +15,7 @@ fn holds<R: Record>(cell: &Option<R>, key: &R::Key) -> bool
 }
 
 /// Records under their keys, in a lent slice of places.
+// The cells are lent, without a heap: a table lies in its caller's memory.
 // No `impl Model`: with the list of places as its value, what the lent memory holds in the end did not prove.
 #[derive(Drop)]
 pub struct Table<'a, R> {
@@ -51,7 +52,7 @@ impl<'a, R: Record> Table<'a, R> {
         ensures within { Within self.now.cells.now result }
         ensures takes { MatchOption result ((place_of R.keyed self.now.cells.now key.now ≡ None) × (first_free self.now.cells.now ≡ None)) (λ i. Takes R.keyed self.now.cells.now key.now i) }
     {
-        // Not by `or_else`: a closure round `free` would have to repeat its contract here.
+        // Not by `or_else`: of a closure round `free` the check learned nothing, when it was tried.
         match self.find(key) {
             Some(place) => Some(place),
             None => self.free(),

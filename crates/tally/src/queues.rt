@@ -8,6 +8,7 @@ use crate::fault::Fault;
 use crate::kind::Tally;
 pub use banded::Queues;
 use big_endian::BigEndian;
+use std::array;
 
 /// The lower edges of the bands, in vehicles.
 pub const EDGES: [u32; 16] = [0, 1, 2, 3, 4, 5, 6, 8, 10, 13, 16, 20, 25, 32, 40, 50];
@@ -62,11 +63,7 @@ impl Tally for Queues {
     }
 
     fn joined(&self, other: &Queues) -> Queues {
-        let mut counts = self.counts;
-        for (band, count) in counts.iter_mut().enumerate() {
-            *count = count.saturating_add(other.counts[band]);
-        }
-        Queues::of(counts)
+        Queues::of(array::from_fn(|band| self.counts[band].saturating_add(other.counts[band])))
     }
 
     fn is_empty(&self) -> bool {
@@ -84,10 +81,6 @@ impl Tally for Queues {
     }
 
     fn read(bytes: &[u8]) -> Result<Queues, Fault> {
-        let mut counts = [0; 16];
-        for (band, count) in counts.iter_mut().enumerate() {
-            *count = u32::read_at(bytes, 4 * band);
-        }
-        Ok(Queues::of(counts))
+        Ok(Queues::of(array::from_fn(|band| u32::read_at(bytes, 4 * band))))
     }
 }

@@ -1,7 +1,7 @@
 use Rattle.std.proofs.Common.{rules}
 use Rattle.movements.specs.Pairs.{unused}
 use Rattle.movements.specs.Coding.{pair_at, pairs_in}
-use Rattle.movements.proofs.Made.{made}
+use Rattle.tally.proofs.Made.{made}
 use Rattle.movements.proofs.coding.pairs_in.Goals as goal
 
 pub returns : goal.returns

@@ -17,5 +17,8 @@ module _ {F B : Type 0} (g : Mut F (ℕ × Unit {0}) B) (f : F) (value : ℕ →
       (cases_lt i k)
 
   -- it holds the function's value at each index
+  pub made_at : (ys : List B) (n : ℕ) (d : B) → IsFromFnResult g f ys n → (k : ℕ) → k < n → get_or ys k d ≡ value k
+  made_at ys n d m k h = made_from ys 0 n m.each k d (omega arith) (omega arith)
+
   pub made : (ys : List B) (n : ℕ) (d : B) → IsFromFnResult g f ys n → ys ≡ map value (range_with_len 0 n)
-  made ys n d m = fill_by_all value ys n d m.long (λ k h. made_from ys 0 n m.each k d (omega arith) (omega arith))
+  made ys n d m = fill_by_all value ys n d m.long (made_at ys n d m)
