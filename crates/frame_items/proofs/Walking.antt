@@ -64,9 +64,6 @@ pub record Walk {I : Type 0} (format : Format I) (row : List ℕ) (place w : ℕ
   pub room : passed * w + length rest ≡ length row
   pub fault : row_fault format (length rest / format.width) before (place + passed * w) rest ≡ row_fault format (length row / format.width) 0 place row
 
-pub walk_begun : {I : Type 0} (format : Format I) (row : List ℕ) (place w : ℕ) → Walk format row place w row 0 0
-walk_begun format row place w = record { room = omega arith; fault = ap (λ k. row_fault format (length row / format.width) 0 k row) (omega arith) }
-
 module _ {I : Type 0} (format : Format I) (row : List ℕ) (place w : ℕ) (rest : List ℕ) (passed before : ℕ) (was : Walk format row place w rest passed before) where
   -- the next item, as an iterator of chunks and their indices gives it
   module _ (x behind : List ℕ) (index size : ℕ) (here : index ≡ passed) (cut : size ≡ w) (same : w ≡ format.width) (wide : 0 < size) (split : rest ≡ x ++ behind) (long : length x ≡ size) where

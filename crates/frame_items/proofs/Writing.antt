@@ -1,7 +1,7 @@
 -- Items written field after field.
-use Rattle.std.proofs.Common.{◌≡◌, ℕ, ◌+◌, ◌-◌, ◌*◌, ◌<◌, ◌≤◌, List, [], ◌∷◌, ◌++◌, length, get_or, take, drop, set, sym, refl, ap, ◌∙◌, ap₂, append_assoc, append-nil, mul-le-mul_right, add-mul, zero-mul, arith, length-append, length-drop}
+use Rattle.std.proofs.Common.{◌≡◌, ℕ, ◌+◌, ◌-◌, ◌*◌, ◌<◌, ◌≤◌, List, [], ◌∷◌, ◌++◌, length, take, drop, set, sym, refl, ap, ◌∙◌, ap₂, append_assoc, append-nil, mul-le-mul_right, add-mul, zero-mul, arith, length-append, length-drop}
 use borrow.Rule.Slice.PartMut.{put_mid}
-use Rattle.std.proofs.lemmas.List.{take_at, drop_at, take_all, take_more, drop-drop, drop_all, take-append-drop, length-take-le, flat_map_more}
+use Rattle.std.proofs.lemmas.List.{take_at, drop_at, drop-drop, drop_all}
 use Rattle.big_endian.proofs.Parts.{put_next}
 use Rattle.frame_items.specs.Format.{Format, row_bytes}
 
@@ -37,10 +37,6 @@ entry_written b v t x l lv =
     ap (λ z. take 5 (put_mid 1 4 z v) ++ t) (first_set b x (omega arith)) ∙ ap (λ z. take 5 z ++ t) (put_next (x ∷ []) (drop 1 b) v 1 4 refl lv (omega (arith, length-drop 1 b)))
     ∙ ap (λ z. z ++ t) (take_at ((x ∷ []) ++ v) (drop 4 (drop 1 b)) 5 (omega (arith, length-append (x ∷ []) v)))
 
--- the end of an item, from n on
-pub end_written : (b v : List ℕ) (n : ℕ) → n ≤ length b → put_mid n (length b - n) b v ≡ take n b ++ v
-end_written b v n h = ap (λ z. take n b ++ (v ++ z)) (drop_all (length b - n) (drop n b) (omega (arith, length-drop n b))) ∙ ap (λ z. take n b ++ z) (append-nil v)
-
 length_rows : {I : Type 0} (format : Format I) → ((x : I) → length (format.bytes x) ≡ format.width) → (xs : List I) → length (row_bytes format xs) ≡ length xs * format.width
 length_rows format long [] = sym (zero-mul format.width)
 length_rows format long (x ∷ xs) = length-append (format.bytes x) (row_bytes format xs) ∙ ap₂ ◌+◌ (long x) (length_rows format long xs) ∙ omega (arith, add-mul 1 (length xs) format.width)
@@ -50,38 +46,9 @@ pub record Going {I : Type 0} (format : Format I) (items : List I) (before : Lis
   pub place : at ≡ start + i * format.width
   pub bytes : out ≡ (take start before ++ row_bytes format (take i items)) ++ drop at before
 
-pub row_begun : {I : Type 0} (format : Format I) (items : List I) (before : List ℕ) (start : ℕ) → Going format items before start before start 0
-row_begun format items before start =
-    record { place = omega (arith, zero-mul format.width); bytes = sym (ap (λ z. z ++ drop start before) (append-nil (take start before)) ∙ take-append-drop start before) }
-
 module _ {I : Type 0} (format : Format I) (long : (x : I) → length (format.bytes x) ≡ format.width) (items : List I) (before : List ℕ) (start : ℕ) (room : start + length items * format.width ≤ length before) (out : List ℕ) (at i : ℕ) (was : Going format items before start out at i) (h : i < length items) where
   row_room : start + i * format.width + format.width ≤ length before
   row_room = omega (arith, mul-le-mul_right {m = i + 1} {n = length items} format.width (omega arith), add-mul i 1 format.width)
-
-  pub row_fits : at + format.width ≤ length before
-  row_fits = omega (arith, row_room, was.place)
-
-  row_written : length (row_bytes format (take i items)) ≡ i * format.width
-  row_written = length_rows format long (take i items) ∙ ap (λ k. k * format.width) (length-take-le i items (omega arith))
-
-  pub row_more : (x : I) (v : List ℕ) (w : ℕ) → x ≡ get_or items i x → v ≡ format.bytes x → w ≡ format.width → Going format items before start (put_mid at (at + w - at) out v) (at + w) (i + 1)
-  row_more x v w e f g =
-      let front = take start before ++ row_bytes format (take i items) in
-      let lf : length front ≡ at = omega (arith, length-append (take start before) (row_bytes format (take i items)), length-take-le start before (omega (arith, row_room)), row_written, was.place) in
-      let k : at + w - at ≡ format.width = omega arith in
-      let lv : length v ≡ at + w - at = ap length f ∙ long x ∙ sym k in
-      let more : row_bytes format (take (i + 1) items) ≡ row_bytes format (take i items) ++ v =
-      ap (row_bytes format) (take_more items i x h) ∙ sym (flat_map_more format.bytes [] (take i items) (get_or items i x)) ∙ ap (λ z. row_bytes format (take i items) ++ z) (ap format.bytes (sym e) ∙ sym f) in
-      record {
-        place = omega (arith, was.place, add-mul i 1 format.width);
-        bytes = ap (λ z. put_mid at (at + w - at) z v) was.bytes ∙ put_next front (drop at before) v at (at + w - at) lf lv (omega (arith, length-drop at before, row_fits))
-            ∙ ap₂ ◌++◌ (append_assoc (take start before) (row_bytes format (take i items)) v ∙ ap (λ z. take start before ++ z) (sym more)) (drop-drop (at + w - at) at before ∙ ap (λ z. drop z before) (omega arith));
-      }
-
-pub row_ended : {I : Type 0} (format : Format I) (items : List I) (before : List ℕ) (start : ℕ) (out : List ℕ) (at i : ℕ) → Going format items before start out at i → length items ≤ i → i ≤ length items → (at ≡ start + length items * format.width) × (out ≡ (take start before ++ row_bytes format items) ++ drop at before)
-row_ended format items before start out at i g h l =
-    let n : i ≡ length items = omega arith in
-    (g.place ∙ ap (λ k. start + k * format.width) n, g.bytes ∙ ap (λ z. (take start before ++ row_bytes format z) ++ drop at before) (take_all i items h))
 
 -- a row behind what is written already
 pub row_after : (p s b out : List ℕ) (n m : ℕ) → length p ≡ n → out ≡ p ++ drop n b → n ≤ m → (take n out ++ s) ++ drop m out ≡ (p ++ s) ++ drop m b

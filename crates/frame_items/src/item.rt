@@ -7,6 +7,7 @@ ghost use Rattle.frame_items.specs.Format.{Format};
 use protocol::refusal::FrameFault;
 
 /// An item of a frame's lists. Its meaning is its format in the frames of each sender.
+// The width stands in each clause: no array type can have a length that the kind of the tallies gives.
 pub trait Item: Copy {
     ghost format: { ℕ → Format Self };
 
