@@ -82,10 +82,14 @@ impl Summary {
     pub fn refusals(&self, condition: &Condition) -> u64
         ensures { result ≡ slice_index self.now.refused (condition_number condition.now) }
     {
-        self.refused
-            .get(usize::from(condition.number()))
-            .copied()
-            .unwrap_or(0)
+        self.refusals_numbered(condition.number())
+    }
+
+    /// How many frames were refused by the condition of a number, as answers print it; by a number that no condition has, none.
+    pub fn refusals_numbered(&self, number: u8) -> u64
+        ensures { result ≡ slice_index self.now.refused number }
+    {
+        self.refused.get(usize::from(number)).copied().unwrap_or(0)
     }
 
     /// The highest clocks of a sender, if a frame of it was seen.
