@@ -1,4 +1,8 @@
 //! Logs read as streams, line by line.
+ghost use Rattle.std.specs.Prelude.{◌≡◌, true, false};
+ghost use Rattle.protocol.specs.Refusals.{condition_number};
+ghost use Rattle.frame_logs.specs.Summaries.{blank, with_no_hexadecimal, with_refusal};
+
 use crate::account::{Place, print_frame};
 use crate::conditions::Meaning;
 use frame::reader::read;
@@ -18,7 +22,7 @@ use tally::kind::Tally;
 #[derive(Drop)]
 pub struct Scan {
     /// Whether each line is told in full: a yes or no, with no value beside it.
-    in_full: bool,
+    pub in_full: bool,
     /// Whether each log so far was read to its end.
     pub all_read: bool,
     pub summary: Summary,
@@ -33,7 +37,9 @@ struct CurrentLine<'a> {
 
 impl Scan {
     /// Of no log.
-    pub fn new(in_full: bool) -> Scan {
+    pub fn new(in_full: bool) -> Scan
+        ensures { result ≡ record { in_full = in_full; all_read = true; summary = blank } }
+    {
         Scan {
             in_full,
             all_read: true,
@@ -46,7 +52,9 @@ impl Scan {
         rt: &HostRuntime,
         place: &Place<'_>,
         why: NoHexadecimal,
-    ) -> io::Result<()> {
+    ) -> io::Result<()>
+        ensures { self.new ≡ record self.old { summary = with_no_hexadecimal self.old.summary } }
+    {
         self.summary.add_no_hexadecimal();
         if self.in_full {
             println!(rt; "{place}: no frame: {why}")?;
@@ -54,12 +62,9 @@ impl Scan {
         Ok(())
     }
 
-    fn refused(
-        &mut self,
-        rt: &HostRuntime,
-        place: &Place<'_>,
-        fault: FrameFault,
-    ) -> io::Result<()> {
+    fn refused(&mut self, rt: &HostRuntime, place: &Place<'_>, fault: FrameFault) -> io::Result<()>
+        ensures { self.new ≡ record self.old { summary = with_refusal self.old.summary (condition_number fault.condition) } }
+    {
         self.summary.add_refusal(&fault.condition);
         if self.in_full {
             println!(rt;
@@ -128,7 +133,9 @@ impl Scan {
     }
 
     /// Names a log that is not read to its end. The logs after it are still read.
-    pub fn pass_over(&mut self, rt: &HostRuntime, name: &str, error: &io::Error) -> io::Result<()> {
+    pub fn pass_over(&mut self, rt: &HostRuntime, name: &str, error: &io::Error) -> io::Result<()>
+        ensures { self.new ≡ record self.old { all_read = false } }
+    {
         self.all_read = false;
         eprintln!(rt; "framelog: {name}: {error}")
     }
