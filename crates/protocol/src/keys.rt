@@ -1,6 +1,5 @@
 //! Tokens and entries as records of the keyed table.
 ghost use Rattle.protocol.specs.Keys.{by_pair, by_entry};
-ghost use Rattle.table.specs.Keys.{by_tests};
 
 use crate::records::{Entry, Pair, Token};
 use table::records::Record;
@@ -10,13 +9,19 @@ impl<K: Copy> Record for Token<K> {
 
     ghost keyed = { by_pair };
 
-    ghost ordered = { λ a b. by_tests _ };
-
     fn key(&self) -> Pair {
         Pair {
             source: self.source,
             destination: self.destination,
         }
+    }
+
+    fn has(&self, key: &Pair) -> bool {
+        self.key() == *key
+    }
+
+    fn before(one: &Pair, other: &Pair) -> bool {
+        one < other
     }
 }
 
@@ -25,9 +30,15 @@ impl<K: Copy> Record for Entry<K> {
 
     ghost keyed = { by_entry };
 
-    ghost ordered = { λ a b. by_tests _ };
-
     fn key(&self) -> u8 {
         self.number
+    }
+
+    fn has(&self, key: &u8) -> bool {
+        self.key() == *key
+    }
+
+    fn before(one: &u8, other: &u8) -> bool {
+        one < other
     }
 }

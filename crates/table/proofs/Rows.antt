@@ -1,11 +1,11 @@
 -- Laws of rows of cells: what stands under each key after a change, and that keys stay apart.
 use Rattle.std.proofs.Common.{◌≡◌, ℕ, zero, suc, Bool, true, false, ◌⊎◌, List, [], ◌∷◌, map, get_or, set, replicate, Some, None, Option, sym, refl, ap, ◌∙◌, subst, inl, inr, ⊎_elim, arith, MatchOption}
 use Rattle.std.specs.List.{position}
-use Rattle.std.specs.Option.{is_none}
+use Rattle.std.specs.Option.{is_none, option_or}
 use Rattle.std.proofs.lemmas.Option.{none-some}
 use Rattle.std.proofs.lemmas.List.Quantifiers.{position-Some}
 use Rattle.std.proofs.lemmas.Bool.{cases_Bool, false≢true}
-use Rattle.table.specs.Cells.{Keyed, under, has, place_of, first_free, Apart, Each, keep}
+use Rattle.table.specs.Cells.{Keyed, under, has, place_of, first_free, sought, Apart, Each, keep}
 use Rattle.table.specs.Changes.{Free, Takes, Written, Emptied, Blank, write}
 use Rattle.table.proofs.First.{first_cases, first_gone}
 
@@ -276,6 +276,23 @@ module _ {R Key : Type 0} (keyed : Keyed R Key) where
   -- what a removal leaves
   pub emptied : (cells : List (Option R)) (i : ℕ) → Emptied keyed cells (set cells i None) i
   emptied cells i k a e = written_by cells (set cells i None) k None (write_none cells i k a e) (apart_none cells i)
+
+  -- what a search for the key's place or a free one gives
+  pub sought_takes : (cells : List (Option R)) (k : Key) (i : ℕ) → sought keyed cells k ≡ Some i → Takes keyed cells k i
+  sought_takes cells k i = by (place_of keyed cells k) refl
+    where
+      by : (found : Option ℕ) → place_of keyed cells k ≡ found → option_or found (first_free cells) ≡ Some i → Takes keyed cells k i
+      by None e s = inr (place_none cells k (sym e), free_is cells i s)
+      by (Some j) e s = inl (e ∙ s)
+
+  -- and where it gives none, there is neither
+  pub sought_cases : (cells : List (Option R)) (k : Key) (r : Option ℕ) → r ≡ sought keyed cells k → MatchOption r ((place_of keyed cells k ≡ None) × (first_free cells ≡ None)) (Takes keyed cells k)
+  sought_cases cells k (Some i) e = sought_takes cells k i (sym e)
+  sought_cases cells k None e = by (place_of keyed cells k) refl (sym e)
+    where
+      by : (found : Option ℕ) → place_of keyed cells k ≡ found → option_or found (first_free cells) ≡ None → (place_of keyed cells k ≡ None) × (first_free cells ≡ None)
+      by None p s = (p, s)
+      by (Some j) p s = absurd (none-some j (sym s))
 
   -- where the key has no place, a free one takes it
   pub free_takes : (cells : List (Option R)) (k : Key) (r : Option ℕ) → None ≡ place_of keyed cells k → r ≡ first_free cells → MatchOption r ((place_of keyed cells k ≡ None) × (first_free cells ≡ None)) (Takes keyed cells k)

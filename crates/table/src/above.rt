@@ -1,6 +1,6 @@
 //! The search for the least key above a given one.
 ghost use Rattle.std.specs.Prelude.{◌≡◌};
-ghost use Rattle.table.specs.Order.{above, least_above};
+ghost use Rattle.table.specs.Order.{above, lesser, least_above};
 
 use crate::records::Record;
 
@@ -8,7 +8,14 @@ use crate::records::Record;
 fn is_above<R: Record>(key: &R::Key, last: Option<R::Key>) -> bool
     ensures { result ≡ above R.keyed last key.now }
 {
-    last.is_none_or(|last| last < *key)
+    last.is_none_or(|last| R::before(&last, key))
+}
+
+// Of two keys the lesser.
+fn lesser<R: Record>(one: R::Key, other: R::Key) -> R::Key
+    ensures { result ≡ lesser R.keyed one other }
+{
+    if R::before(&other, &one) { other } else { one }
 }
 
 // The least key above the last one.
@@ -20,5 +27,5 @@ pub(crate) fn least_above<R: Record>(cells: &[Option<R>], last: Option<R::Key>) 
         .flatten()
         .map(|record| record.key())
         .filter(|key| is_above::<R>(key, last))
-        .min()
+        .reduce(|one, other| lesser::<R>(one, other))
 }

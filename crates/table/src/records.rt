@@ -1,9 +1,9 @@
 ghost use Rattle.std.specs.Prelude.{◌≡◌};
-ghost use Rattle.table.specs.Cells.{Keyed, compared};
+ghost use Rattle.table.specs.Cells.{Keyed};
 
-/// A record that a table can hold: it has a key, and keys have an order.
+/// A record that a table can hold: it has a key, and keys have an order. (A key need not be `Ord`: where its derived order is the one that is meant, the two tests are one line each.)
 pub trait Record: Copy {
-    type Key: Copy + Ord;
+    type Key: Copy;
 
     ghost keyed: { Keyed Self Self.Key };
 
@@ -11,6 +11,11 @@ pub trait Record: Copy {
     fn key(&self) -> Self::Key
         ensures { result ≡ keyed.key self.now };
 
-    // Keys compare as `keyed` has them.
-    ghost ordered: { (a b : Self.Key) → Self.Key.cmp a b ≡ compared keyed a b };
+    /// Whether this record has the key.
+    fn has(&self, key: &Self::Key) -> bool
+        ensures { result ≡ keyed.alike key.now (keyed.key self.now) };
+
+    /// Whether one key comes before another.
+    fn before(one: &Self::Key, other: &Self::Key) -> bool
+        ensures { result ≡ keyed.before one.now other.now };
 }

@@ -11,7 +11,7 @@ use crate::records::Record;
 fn holds<R: Record>(cell: &Option<R>, key: &R::Key) -> bool
     ensures { result ≡ has R.keyed key.now cell.now }
 {
-    cell.as_ref().is_some_and(|record| record.key() == *key)
+    cell.as_ref().is_some_and(|record| record.has(key))
 }
 
 /// Records under their keys, in a lent slice of places.

@@ -1,5 +1,4 @@
 ghost use Rattle.table_tests.specs.Keys.{by_ends, by_mark};
-ghost use Rattle.table.specs.Keys.{by_tests};
 
 use crate::coins::{Coin, Ends, Mark};
 use table::records::Record;
@@ -9,13 +8,19 @@ impl Record for Coin {
 
     ghost keyed = { by_ends };
 
-    ghost ordered = { λ a b. by_tests _ };
-
     fn key(&self) -> Ends {
         Ends {
             source: self.source,
             destination: self.destination,
         }
+    }
+
+    fn has(&self, key: &Ends) -> bool {
+        self.key() == *key
+    }
+
+    fn before(one: &Ends, other: &Ends) -> bool {
+        one < other
     }
 }
 
@@ -24,9 +29,15 @@ impl Record for Mark {
 
     ghost keyed = { by_mark };
 
-    ghost ordered = { λ a b. by_tests _ };
-
     fn key(&self) -> u8 {
         self.number
+    }
+
+    fn has(&self, key: &u8) -> bool {
+        self.key() == *key
+    }
+
+    fn before(one: &u8, other: &u8) -> bool {
+        one < other
     }
 }
