@@ -36,7 +36,13 @@ impl<'a> Part<'a> {
     pub fn item_at<I: Item>(&self, index: usize) -> Option<I>
         ensures { result ≡ slice_get (row_of (I.format 0) self.now.bytes.now) index }
     {
-        self.items::<I>().nth(index)
+        if index >= self.item_count::<I>() {
+            return None;
+        }
+        // By its place: the iterator's `nth` would show all the items before it too.
+        let width = I::width();
+        let start = index * width;
+        Some(I::shown(&self.bytes[start..start + width]))
     }
 
     /// Judges the items of the part, in the frame of a sender: the first fault is the error.

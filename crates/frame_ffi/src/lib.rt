@@ -9,7 +9,7 @@ ghost use Rattle.frame.specs.Frames.{judge};
 
 use frame::outgoing::Outgoing;
 use frame::reader::read;
-use frame::received::Part;
+use frame::received::{Part, Received};
 use frame::writer::write;
 use frame_items::item::Item;
 use movements::Movements;
@@ -52,14 +52,13 @@ fn no_entry<K: Tally>() -> Entry<K> {
     }
 }
 
-// Takes a frame of a kind apart into its items and writes it anew, and answers the length. Tokens and entries go in lent places, since the room that an array of them takes must be known.
+// Takes a frame of a kind apart into its items and writes it anew, and answers the length. Tokens and entries go in lent places, since the room that an array of them takes must be known; they are made once the frame is known to be lawful.
 fn rewritten<K: Tally>(
-    bytes: &[u8],
+    frame: &Received<'_>,
     tokens: &mut [Token<K>],
     entries: &mut [Entry<K>],
     out: &mut [u8],
 ) -> Option<usize> {
-    let frame = read::<K>(bytes).ok()?;
     let slot = Slot {
         source_clock: 0,
         destination_clock: 0,
@@ -97,21 +96,30 @@ pub extern "C" fn frame_verdict_movements(bytes: &[u8]) -> u8 {
 
 #[unsafe(no_mangle)]
 pub extern "C" fn frame_rewrite_vehicles(bytes: &[u8], out: &mut [u8]) -> usize {
+    let Ok(frame) = read::<Vehicles>(bytes) else {
+        return 0;
+    };
     let mut tokens = [no_token::<Vehicles>(); 8];
     let mut entries = [no_entry::<Vehicles>(); 4];
-    rewritten(bytes, &mut tokens, &mut entries, out).unwrap_or(0)
+    rewritten(&frame, &mut tokens, &mut entries, out).unwrap_or(0)
 }
 
 #[unsafe(no_mangle)]
 pub extern "C" fn frame_rewrite_queues(bytes: &[u8], out: &mut [u8]) -> usize {
+    let Ok(frame) = read::<Queues>(bytes) else {
+        return 0;
+    };
     let mut tokens = [no_token::<Queues>(); 8];
     let mut entries = [no_entry::<Queues>(); 4];
-    rewritten(bytes, &mut tokens, &mut entries, out).unwrap_or(0)
+    rewritten(&frame, &mut tokens, &mut entries, out).unwrap_or(0)
 }
 
 #[unsafe(no_mangle)]
 pub extern "C" fn frame_rewrite_movements(bytes: &[u8], out: &mut [u8]) -> usize {
+    let Ok(frame) = read::<Movements>(bytes) else {
+        return 0;
+    };
     let mut tokens = [no_token::<Movements>(); 8];
     let mut entries = [no_entry::<Movements>(); 4];
-    rewritten(bytes, &mut tokens, &mut entries, out).unwrap_or(0)
+    rewritten(&frame, &mut tokens, &mut entries, out).unwrap_or(0)
 }

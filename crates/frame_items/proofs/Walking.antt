@@ -1,14 +1,15 @@
 -- The walk over a list of items in bytes.
-use Rattle.std.proofs.Common.{◌≡◌, ℕ, zero, suc, ◌+◌, ◌-◌, ◌*◌, ◌/◌, ◌<◌, ◌≤◌, ◌||◌, eqb, List, [], ◌∷◌, ◌++◌, length, take, drop, Some, None, Option, sym, refl, ap, ◌∙◌, ap₂, add-mul, mul-div_cancel, arith, length-append, length-drop}
+use Rattle.std.proofs.Common.{◌≡◌, ℕ, zero, suc, ◌+◌, ◌-◌, ◌*◌, ◌/◌, ◌<◌, ◌≤◌, ◌||◌, eqb, List, [], ◌∷◌, ◌++◌, length, take, drop, Some, None, Option, sym, refl, ap, ◌∙◌, subst, ap₂, mul-le-mul_right, add-mul, zero-mul, div-mul-le_self, mul-div_cancel, arith, length-append, length-drop}
 use Rattle.std.proofs.Math.Nat.{div-eq_of_lt, div-eq-sub-div}
-use Rattle.std.proofs.lemmas.List.{take_at, drop_at, take-append-drop, length-take-le, take-take, drop-take}
+use Rattle.std.proofs.lemmas.List.{take_at, drop_at, take-append-drop, length-take-le, drop-drop, take-take, drop-take}
 use Rattle.std.proofs.lemmas.Iterator.{YieldsList}
 use Rattle.std.proofs.lemmas.Iterator.Splits.{YieldsList-from_shown_while}
 use Rattle.std.specs.Slice.Iter.{chunks_exact_rest, chunks_exact_size, chunks_exact_steps}
 use Rattle.protocol.specs.declared.records.Entry.{Entry}
 use Rattle.protocol.specs.declared.refusal.FrameFault.{FrameFault}
-use Rattle.std.specs.List.{list_any}
-use Rattle.frame_items.specs.Format.{Format, or_else, row_fault, shown_row, row_of}
+use Rattle.std.proofs.lemmas.Option.{slice_get_past}
+use Rattle.std.specs.List.{list_any, slice_get}
+use Rattle.frame_items.specs.Format.{Format, or_else, row_fault, shown_row, row_of, length_shown}
 use Rattle.frame_items.specs.Items.{slots, slot_shown, has_entry}
 
 -- which of four questions answers
@@ -96,6 +97,33 @@ chunks_show format wide {s} e =
     (λ t u p h. ap length (shown_end format (chunks_exact_rest t) (omega (arith, p, h.1.0))))
     (λ t x u p h. (h.0 ∙ p, shown_more format (chunks_exact_rest t) x.now (chunks_exact_rest u) wide h.1.0 (h.1.1 ∙ p)))
     s e
+
+-- the item at an index
+pub nth_shown : {I : Type 0} (format : Format I) (n i : ℕ) (b : List ℕ) → i < n → slice_get (shown_row format n b) i ≡ Some (format.shows (take format.width (drop (i * format.width) b)))
+unfolding shown_row
+nth_shown format zero i b h = absurd (omega arith)
+nth_shown format (suc n) zero b h = ap (λ k. Some (format.shows (take format.width (drop k b)))) (sym (zero-mul format.width))
+nth_shown format (suc n) (suc i) b h =
+    let w = format.width in
+    nth_shown format n i (drop w b) (omega arith) ∙ ap (λ z. Some (format.shows (take w z))) (drop-drop (i * w) w b ∙ ap (λ k. drop k b) (omega (arith, add-mul 1 i w)))
+
+pub nth_none : {I : Type 0} (format : Format I) (n i : ℕ) (b : List ℕ) → n ≤ i → None ≡ slice_get (shown_row format n b) i
+nth_none format n i b h = sym (slice_get_past (shown_row format n b) i (omega (arith, length_shown format n b)))
+
+-- an item before the last lies within the list
+pub index_within : (n i w : ℕ) → i < n → i * w + w ≤ n * w
+index_within n i w h = omega (arith, mul-le-mul_right {m = i + 1} {n = n} w (omega arith), add-mul i 1 w)
+
+-- the same in the code's terms: w is the width, and as many items as fit are in the bytes
+module _ {I : Type 0} (format : Format I) (b : List ℕ) (i w : ℕ) (e : w ≡ format.width) (h : i < length b / w) where
+  pub item_fits : i * w + w ≤ length b
+  item_fits = omega (arith, index_within (length b / w) i w h, div-mul-le_self (length b) w)
+
+  pub item_shown : (x : I) → x ≡ format.shows (take (i * w + w - i * w) (drop (i * w) b)) → Some x ≡ slice_get (row_of format b) i
+  item_shown x f =
+      let k : i * w + w - i * w ≡ format.width = omega arith in
+      let n : length b / w ≡ length b / format.width = ap (λ z. length b / z) e in
+      ap Some (f ∙ ap format.shows (ap₂ (λ m z. take m (drop (i * z) b)) k e)) ∙ sym (nth_shown format (length b / format.width) i b (subst (λ z. i < z) n h))
 
 -- a row read from its own part of the bytes
 row_within : {I : Type 0} (format : Format I) (n : ℕ) (b : List ℕ) → shown_row format n (take (n * format.width) b) ≡ shown_row format n b

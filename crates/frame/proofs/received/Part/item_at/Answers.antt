@@ -1,13 +1,16 @@
-use Rattle.std.proofs.Common.{sym, refl, ap, ◌∙◌}
-use Rattle.std.specs.List.{slice_get}
-use Rattle.std.proofs.lemmas.Iterator.Adapters.{option_map_id}
-use Rattle.std.proofs.lemmas.Iterator.Consumers.{nth_from_yields_List, YieldsList-from_first}
-use Rattle.frame_items.specs.Format.{row_of}
+use Rattle.std.proofs.Common.{◌/◌, ◌<◌, length, sym, subst, arith}
+use Rattle.frame_items.proofs.Walking.{nth_none, item_shown}
 use Rattle.frame.proofs.received.Part.item_at.Goals as goal
+
+pub returns-then-index-item_count : goal.returns-then-index-item_count
+returns-then-index-item_count g c =
+    let format = g.I.Item.format 0 in
+    let b = c.args.self.now.bytes.now in
+    nth_none format (length b / format.width) c.args.index b (omega (arith, c.item_count.ensures, c.if-index-item_count.true))
 
 pub returns : goal.returns
 returns g c =
-    let ran = c.nth.ensures.ran in
-    sym (option_map_id c.nth.result)
-    ∙ nth_from_yields_List c.nth.result c.nth.new.self c.args.index (ran.0, ran.1, ran.2) (YieldsList-from_first (λ x. x) (λ s. row_of (g.I.Item.format 0) s.bytes.now) {s = c.items.result} _ refl)
-    ∙ ap (λ b. slice_get (row_of (g.I.Item.format 0) b) c.args.index) c.items.ensures
+    let format = g.I.Item.format 0 in
+    let b = c.args.self.now.bytes.now in
+    let w = c.width-width.ensures 0 in
+    item_shown format b c.args.index c.width-width.result w (subst (λ z. c.args.index < length b / z) (sym w) (omega (arith, c.item_count.ensures, c.if-index-item_count.false))) c.shown.result (c.shown.ensures 0)
