@@ -1,5 +1,5 @@
 -- What each line adds to a summary.
-use Rattle.std.specs.Prelude.{ℕ, ◌+◌, replicate, None}
+use Rattle.std.specs.Prelude.{ℕ, ◌+◌, ◌&&◌, if◌then◌else◌, nat_le, replicate, None}
 use Rattle.frame_logs.specs.declared.counts.Clocks.{Clocks}
 use Rattle.frame_logs.specs.declared.summary.Summary.{Summary}
 use Rattle.frame_logs.specs.Counts.{stop, one_more, one_more_between, raised}
@@ -14,7 +14,7 @@ with_frame s sender clocks = record s { frames = stop (s.frames + 1); senders = 
 
 -- a token from a source to a destination; of numbers that no node has, none is counted
 abbrev pub with_token : Summary → ℕ → ℕ → Summary
-with_token s source destination = record s { tokens = one_more_between s.tokens source destination }
+with_token s source destination = record s { tokens = if nat_le source 16 && nat_le destination 16 then one_more_between s.tokens source destination else s.tokens }
 
 -- a refusal, by the number of its condition
 abbrev pub with_refusal : Summary → ℕ → Summary

@@ -1,5 +1,5 @@
 //! The summary of a log: what its lines showed, counted in constant memory. Each count stops at the largest number, which stands for itself and all above.
-ghost use Rattle.std.specs.Prelude.{◌≡◌, None, slice_index, slice_index_or};
+ghost use Rattle.std.specs.Prelude.{◌≡◌, ◌&&◌, if◌then◌else◌, nat_le, None, slice_index, slice_index_or};
 ghost use Rattle.protocol.specs.Refusals.{condition_number};
 ghost use Rattle.frame_logs.specs.Counts.{count_between};
 ghost use Rattle.frame_logs.specs.Runs.{HighestStands, PairsStand};
@@ -58,9 +58,11 @@ impl Summary {
         ensures after { self.new ≡ with_token self.old source destination }
         ensures stand { PairsStand }
     {
-        let row = usize::from(source);
-        if row < NUMBERS {
-            count_one(&mut self.tokens[row], usize::from(destination));
+        if source <= NODES_MAX && destination <= NODES_MAX {
+            count_one(
+                &mut self.tokens[usize::from(source)],
+                usize::from(destination),
+            );
         }
     }
 
@@ -101,8 +103,12 @@ impl Summary {
 
     /// How many frames showed a token from a source to a destination.
     pub fn tokens_between(&self, source: u8, destination: u8) -> u64
-        ensures { result ≡ count_between self.now.tokens source destination }
+        ensures { result ≡ (if nat_le source 16 && nat_le destination 16 then count_between self.now.tokens source destination else 0) }
     {
+        // Asked for themselves: how long the rows are, no caller can see.
+        if source > NODES_MAX || destination > NODES_MAX {
+            return 0;
+        }
         self.tokens
             .get(usize::from(source))
             .and_then(|row| row.get(usize::from(destination)))
