@@ -41,6 +41,11 @@ round_of_places last n l e =
     let end : last + (16 - last) ≡ 16 = omega arith in
     places_up last (16 - last) last n (omega arith) (omega arith) ∙ ap (λ xs. range_with_len last (16 - last) ++ xs) (ap (λ s. places_after s last) end ∙ places_anew last l)
 
+-- the places go by the remainder alone
+places_same : (a b n : ℕ) → a % 16 ≡ b % 16 → places_after a n ≡ places_after b n
+places_same a b zero e = refl
+places_same a b (suc n) e = ap₂ ◌∷◌ e (ap (λ k. places_after (k + 1) n) e)
+
 -- the frame in a place, beside the place
 abbrev pub held_in : List (Option Held) → ℕ → Option (ℕ × Held)
 held_in frames place = option_map (λ held. (place, held)) (get_or frames place None)
@@ -75,6 +80,14 @@ within frames place held e =
     (λ l. l)
     (λ past. let none : ◌≡◌ {A = Option Held} (Some held) None = sym e ∙ get_or_past frames place None past in absurd cc)
     (cases_lt place (length frames))
+
+-- a search by steps from a place on, over the places that follow in the round
+pub by_steps : (frames : List (Option Held)) (last k n : ℕ) → first_answer (λ step. held_in frames ((last + step) % 16)) (range_with_len k n) ≡ first_answer (held_in frames) (places_after (last + k) n)
+by_steps frames last k zero = refl
+by_steps frames last k (suc n) =
+    let here = held_in frames ((last + k) % 16) in
+    let same : (last + (k + 1)) % 16 ≡ next_sender (last + k) % 16 = omega arith in
+    ap (option_or here) (by_steps frames last (k + 1) n ∙ ap (first_answer (held_in frames)) (places_same (last + (k + 1)) (next_sender (last + k)) n same))
 
 -- what such a search over a board finds
 pub record IsTurn (board : Board) (r : Option (ℕ × Bor Held)) : Type 0 where

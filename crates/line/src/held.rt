@@ -1,14 +1,25 @@
 //! A place for one frame.
-ghost use Rattle.line.specs.Frames.{Sized};
+ghost use Rattle.std.specs.Prelude.{◌≡◌, ◌≤◌, ◌++◌, length, drop};
+ghost use Rattle.protocol.specs.Limits.{frame_bytes_min, frame_bytes_max};
 
-use arrayvec::ArrayVec;
-use protocol::limits::FRAME_BYTES_MAX;
+use protocol::limits::{FRAME_BYTES_MAX, FRAME_BYTES_MIN};
 
 /// A frame in a place as long as the longest.
 #[derive(Drop)]
 pub struct Held {
-    bytes: ArrayVec<u8, FRAME_BYTES_MAX>,
-    ghost sized: { Sized bytes.items },
+    // the frame is the first `size` of them (no `ArrayVec`: one that is cleared blanks all that it held)
+    bytes: [u8; FRAME_BYTES_MAX],
+    size: usize,
+    ghost sized: { (frame_bytes_min ≤ size) × (size ≤ frame_bytes_max) × (size ≤ length bytes) },
+}
+
+// Copies bytes over the first of others, which stay from there on.
+fn copy_over(bytes: &[u8], others: &mut [u8])
+    requires { length bytes.now ≤ length others.old }
+    ensures { others.new ≡ bytes.now ++ drop (length bytes.now) others.old }
+{
+    let size = bytes.len();
+    others[..size].copy_from_slice(bytes);
 }
 
 impl Held {
@@ -22,9 +33,12 @@ impl Held {
         requires { Sized frame.now }
         ensures { content result ≡ frame.now }
     {
-        Held {
-            bytes: ArrayVec::try_from(frame).unwrap(),
-        }
+        let mut held = Held {
+            bytes: [0; FRAME_BYTES_MAX],
+            size: FRAME_BYTES_MIN,
+        };
+        held.hold(frame);
+        held
     }
 
     /// Holds another frame from now on.
@@ -32,8 +46,8 @@ impl Held {
         requires { Sized frame.now }
         ensures { content self.new ≡ frame.now }
     {
-        self.bytes.clear();
-        self.bytes.try_extend_from_slice(frame).unwrap();
+        copy_over(frame, &mut self.bytes);
+        self.size = frame.len();
     }
 
     /// Copies the frame into the first bytes of a buffer, and answers its length.
@@ -41,8 +55,7 @@ impl Held {
         requires { frame_bytes_max ≤ length buffer.old }
         ensures { Copied (content self.now) buffer.old result buffer.new }
     {
-        let size = self.bytes.len();
-        buffer[..size].copy_from_slice(&self.bytes);
-        size
+        copy_over(&self.bytes[..self.size], buffer);
+        self.size
     }
 }

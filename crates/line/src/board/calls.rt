@@ -37,9 +37,10 @@ impl Board {
         ensures within { IfSome result (λ found. found.0 < nodes_max) }
         ensures frame { IfSome result (λ found. latest_of self.now (found.0 + 1) ≡ Some (content found.1.now)) }
     {
-        (self.next..SENDERS)
-            .chain(0..self.next)
-            .find_map(|place| Some((place, self.frames.get(place)?.as_ref()?)))
+        (0..SENDERS).find_map(|step| {
+            let place = (self.next + step) % SENDERS;
+            Some((place, self.frames.get(place)?.as_ref()?))
+        })
     }
 
     // Replaces the frame of a frame's sender.
@@ -48,7 +49,8 @@ impl Board {
         ensures { shows self.new ≡ board_rule.put (shows self.old) frame.now }
     {
         let place = frame[2] as usize - 1;
-        match &mut self.frames[place] {
+        let frames = &mut self.frames;
+        match &mut frames[place] {
             Some(held) => held.hold(frame),
             unheard => *unheard = Some(Held::new(frame)),
         }

@@ -38,7 +38,8 @@ impl Line for Queue {
     fn put(&mut self, frame: &[u8]) {
         if self.accepts(frame) {
             let free = (self.first + self.count) % PLACES;
-            self.places[free].hold(frame);
+            let places = &mut self.places;
+            places[free].hold(frame);
             self.count += 1;
         }
     }
