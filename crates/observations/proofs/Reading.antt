@@ -1,5 +1,5 @@
 -- One byte more of a source, and its end. Assumes nothing.
-use Rattle.std.proofs.Common.{◌≡◌, ℕ, true, false, List, [], ◌∷◌, ◌++◌, length, Some, None, Option, unwrap_or, sym, refl, ap, ◌∙◌, subst, append_assoc, append-nil}
+use Rattle.std.proofs.Common.{◌≡◌, ℕ, true, false, List, [], ◌∷◌, ◌++◌, length, Some, None, Option, is_some, unwrap_or, sym, refl, ap, ◌∙◌, subst, append_assoc, append-nil}
 use Rattle.std.specs.List.{flat_map, AllByRecursion}
 use Rattle.std.proofs.lemmas.List.{flat_map_more, length_push}
 use Rattle.std.proofs.ByRecursion.{All-push}
@@ -9,7 +9,7 @@ use Rattle.observations.specs.declared.source.RefusedLine.{RefusedLine}
 use Rattle.observations.specs.declared.source.Source.{Source}
 use Rattle.observations.specs.Reader.{Has}
 use Rattle.observations.specs.Figures.{stopped, Counts}
-use Rattle.observations.specs.Source.{Plain, with_newline, Cut, some_byte, InHand, SoFar, Answered, LineEnded, last_line, Finished}
+use Rattle.observations.specs.Source.{Plain, with_newline, Cut, some_byte, InHand, SoFar, Kept, Answered, LineEnded, last_line, Finished}
 
 cut_byte : (text : List ℕ) (lines : List (List ℕ)) (rest : List ℕ) (b : ℕ) → Plain b → Cut text lines rest → Cut (text ++ b ∷ []) lines (rest ++ b ∷ [])
 cut_byte text lines rest b plain c = record {
@@ -29,14 +29,19 @@ some_push : (rest : List ℕ) (b : ℕ) → some_byte (rest ++ b ∷ []) ≡ tru
 some_push [] b = refl
 some_push (x ∷ rest) b = refl
 
-pub read_byte : (text : List ℕ) (b : ℕ) (before after : Source) (line : Line) → Plain b → (h : SoFar text before) → after.figures ≡ before.figures → after.ended ≡ before.ended → after.line ≡ Some line → Has (h.rest ++ b ∷ []) line → SoFar (text ++ b ∷ []) after
-read_byte text b before after line plain h figures ended is has = record {
+-- a line in hand that has begun is that of a rest with a byte
+in_hand : (rest : List ℕ) (hand : Option Line) → some_byte rest ≡ true → is_some hand ≡ true → ((line : Line) → hand ≡ Some line → Has rest line) → InHand rest hand
+in_hand rest None some begun h = let wrong : false ≡ true = begun in cc
+in_hand rest (Some line) some begun h = (some, h line refl)
+
+pub read_byte : (text : List ℕ) (b : ℕ) (before after : Source) → Plain b → (h : SoFar text before) → Kept before after → ((line : Line) → after.line ≡ Some line → Has (h.rest ++ b ∷ []) line) → SoFar (text ++ b ∷ []) after
+read_byte text b before after plain h kept has = record {
   lines = h.lines;
   rest = h.rest ++ b ∷ [];
   cut = cut_byte text h.lines h.rest b plain h.cut;
-  counts = subst (Counts h.lines) (sym figures) h.counts;
-  ended = ended ∙ h.ended;
-  line = subst (InHand (h.rest ++ b ∷ [])) (sym is) (some_push h.rest b, has);
+  counts = subst (Counts h.lines) (sym kept.figures) h.counts;
+  ended = kept.ended ∙ h.ended;
+  line = in_hand (h.rest ++ b ∷ []) after.line (some_push h.rest b) kept.begun has;
 }
 
 pub answered_byte : (text : List ℕ) (b : ℕ) (before : Source) → Plain b → SoFar text before → Answered text b None

@@ -1,5 +1,5 @@
 -- A source: its text, cut into lines, and what was read of it. Assumes nothing.
-use Rattle.std.specs.Prelude.{◌≡◌, ℕ, ◌+◌, Bool, true, false, List, [], ◌∷◌, ◌++◌, length, Some, None, Ok, Err, Option, Result}
+use Rattle.std.specs.Prelude.{◌≡◌, ℕ, ◌+◌, Bool, true, false, List, [], ◌∷◌, ◌++◌, length, Some, None, is_some, Ok, Err, Option, Result}
 use Rattle.std.specs.List.{flat_map, AllByRecursion}
 use Rattle.observations.specs.declared.line.LineFault.{LineFault}
 use Rattle.observations.specs.declared.line.Line.{Line}
@@ -59,6 +59,12 @@ pub record Answered (text : List ℕ) (byte : ℕ) (r : Option RefusedLine) : Ty
   pub cut : Cut text lines rest
   pub at_newline : byte ≡ 10 → Told lines rest r
   pub elsewhere : Plain byte → r ≡ None
+
+-- what a byte that is added to the rest leaves: the line in hand has begun
+pub record Kept (before after : Source) : Type 0 where
+  pub figures : after.figures ≡ before.figures
+  pub ended : after.ended ≡ before.ended
+  pub begun : is_some after.line ≡ true
 
 -- the rest ends as a line, of which this was read
 pub record LineEnded (lines : List (List ℕ)) (rest : List ℕ) (hand : Line) (before after : Source) (r : Option RefusedLine) : Type 0 where

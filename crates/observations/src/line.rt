@@ -53,7 +53,7 @@ impl From<u8> for Mark {
 fn longer(number: u32, digit: u8) -> Option<u32>
     ensures { result ≡ amount_of (number * 10 + digit) }
 {
-    number.checked_mul(10)?.checked_add(u32::from(digit))
+    u32::try_from(u64::from(number) * 10 + u64::from(digit)).ok()
 }
 
 impl Line {

@@ -1,6 +1,7 @@
 //! One source of lines, read a byte at a time in the same room however long it is.
-ghost use Rattle.std.specs.Prelude.{◌≡◌, ℕ, List, [], ◌∷◌, ◌++◌};
-ghost use Rattle.observations.specs.Source.{SoFar, Answered, LineEnded, Finished};
+ghost use Rattle.std.specs.Prelude.{◌≡◌, ℕ, List, [], ◌∷◌, ◌++◌, Some};
+ghost use Rattle.observations.specs.Reader.{Has};
+ghost use Rattle.observations.specs.Source.{InHand, SoFar, Answered, Kept, LineEnded, Finished};
 
 use crate::figures::Figures;
 use crate::line::{Line, LineFault};
@@ -46,7 +47,7 @@ impl Source {
             let line = self.line.take().unwrap_or(Line::new());
             return self.end_line(line);
         }
-        self.line.get_or_insert(Line::new()).take(byte);
+        self.add(byte);
         None
     }
 
@@ -72,7 +73,16 @@ impl Source {
         self.ended
     }
 
-    // Counts a line that ended.
+    // Adds a byte to the line in hand.
+    fn add(&mut self, byte: u8)
+        ensures rest { Kept self.old self.new }
+        ensures line { (rest : List ℕ) (line : Line) → InHand rest self.old.line → self.new.line ≡ Some line → Has (rest ++ byte ∷ []) line }
+    {
+        self.line.get_or_insert(Line::new()).take(byte);
+    }
+
+    // Counts a line that ended. Inlined, as a call would copy each line, and most are short.
+    #[inline(always)]
     fn end_line(&mut self, line: Line) -> Option<RefusedLine>
         ensures { (lines : List (List ℕ)) (rest : List ℕ) → LineEnded lines rest line self.old self.new result }
     {

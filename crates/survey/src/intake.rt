@@ -1,5 +1,5 @@
 //! Reading a source in chunks, and telling each refused line as it is met.
-ghost use Rattle.std.specs.Prelude.{◌≡◌, ℕ, List, ◌++◌, ◌⊎◌, IfOk, OnOk};
+ghost use Rattle.std.specs.Prelude.{◌≡◌, ℕ, List, ◌++◌, ◌⊎◌, IfOk, OnOk, MatchResult};
 ghost use Rattle.observations.specs.Source.{SoFar};
 ghost use Rattle.survey.specs.Intake.{Reaches, CameOf, NothingRead};
 
@@ -117,16 +117,23 @@ pub fn from_stdin(rt: &HostRuntime) -> io::Result<Intake>
     taken_in(rt, &mut rt.stdin())
 }
 
-/// Reads the file of this name.
-pub fn from_file(rt: &HostRuntime, name: &str) -> io::Result<Intake>
-    ensures { IfOk result (λ intake. NothingRead intake ⊎ ((text : List ℕ) × CameOf text intake)) }
+// Reads a file, where it could be opened.
+fn of_opened(rt: &HostRuntime, opened: io::Result<File>) -> io::Result<Intake>
+    ensures { IfOk result (λ intake. MatchResult opened (λ file. (text : List ℕ) × CameOf text intake) (λ error. NothingRead intake)) }
 {
-    println!(rt; "source {name}")?;
-    match File::open(rt, name) {
+    match opened {
         Ok(mut file) => taken_in(rt, &mut file),
         Err(error) => Ok(Intake {
             figures: Figures::new(),
             read: Err(Unread::Nothing(error)),
         }),
     }
+}
+
+/// Reads the file of this name.
+pub fn from_file(rt: &HostRuntime, name: &str) -> io::Result<Intake>
+    ensures { IfOk result (λ intake. NothingRead intake ⊎ ((text : List ℕ) × CameOf text intake)) }
+{
+    println!(rt; "source {name}")?;
+    of_opened(rt, File::open(rt, name))
 }

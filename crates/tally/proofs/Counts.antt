@@ -1,5 +1,5 @@
 -- What the loops over the bands keep, and what they end with.
-use Rattle.std.proofs.Common.{◌≡◌, ℕ, ◌+◌, ◌-◌, ◌*◌, ◌<◌, ◌≤◌, true, false, cond, eqb, leb, List, [], ◌++◌, length, get_or, take, drop, set, replicate, sym, refl, ap, ◌∙◌, ap₂, ⊎_elim, arith, length-drop}
+use Rattle.std.proofs.Common.{◌≡◌, ℕ, zero, suc, ◌+◌, ◌-◌, ◌*◌, ◌<◌, ◌≤◌, true, false, cond, eqb, leb, List, [], ◌++◌, length, get_or, take, drop, set, replicate, sym, refl, ap, ◌∙◌, ap₂, ⊎_elim, arith, length-drop}
 use borrow.Rule.Slice.PartMut.{put_mid}
 use Rattle.std.specs.List.{flat_map}
 use Rattle.std.proofs.lemmas.List.{get_or-set_same, get_or-set_other, get_or-replicate, take_more, drop-drop, length-take-le, flat_map_more}
@@ -20,8 +20,29 @@ last_before n i h p =
     let some : 0 < i = ⊎_elim (λ (s : 0 < i). s) (λ (z : i ≤ 0). absurd (omega (arith, leb-false _ _ (p.1 0 0 z (omega arith))))) (cases_lt 0 i) in
     (some, record { within = omega arith; reached = leb-true _ _ (p.0 (i - 1) 0 (omega arith) (omega arith)); last = λ j k l. leb-false _ _ (p.1 j 0 (omega arith) l) })
 
+-- the first edges are 0 to 6
+first_edge : (k : ℕ) → k ≤ 6 → get_or edges k 0 ≡ k
+first_edge zero h = refl
+first_edge (suc zero) h = refl
+first_edge (suc (suc zero)) h = refl
+first_edge (suc (suc (suc zero))) h = refl
+first_edge (suc (suc (suc (suc zero)))) h = refl
+first_edge (suc (suc (suc (suc (suc zero))))) h = refl
+first_edge (suc (suc (suc (suc (suc (suc zero)))))) h = refl
+first_edge (suc (suc (suc (suc (suc (suc (suc k))))))) h = absurd (omega arith)
+
 pub is_band : (n at : ℕ) → LastBand n at → at ≡ band_of n
 is_band n at l = one_last_band n at (band_of n) l (band_is_last n)
+
+-- a short queue has the band of its own length
+pub short_band : (n : ℕ) → n ≤ 6 → n ≡ band_of n
+short_band n h =
+    is_band n n
+    (record {
+      within = omega arith;
+      reached = omega (arith, first_edge n h);
+      last = λ j k l. ⊎_elim (λ (s : j < 7). omega (arith, first_edge j (omega arith))) (λ (s : 7 ≤ j). omega (arith, edges_rise 7 j s l)) (cases_lt j 7);
+    })
 
 -- one count of 1 among zeros
 pub one_at : (k band : ℕ) → k < 16 → band < 16 → get_or (set (replicate 16 0) band 1) k 0 ≡ stop (cond (eqb k band) 1 0)

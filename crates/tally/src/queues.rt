@@ -1,8 +1,8 @@
 //! The kind `queues`: sixteen counts, one for each band of queue lengths.
 mod banded;
 
-ghost use Rattle.std.specs.Prelude.{◌≡◌, ℕ, ◌<◌, slice_index};
-ghost use Rattle.tally.specs.Queues.{stop, by_band, queues, queues_lawful, band_of, one_in, observed_queue, LastBand};
+ghost use Rattle.std.specs.Prelude.{◌≡◌, ℕ, ◌+◌, ◌<◌, nat_le, slice_index};
+ghost use Rattle.tally.specs.Queues.{stop, by_band, queues, queues_lawful, band_of, one_in, observed_queue, count_in, LastBand};
 
 use crate::fault::Fault;
 use crate::kind::Tally;
@@ -14,11 +14,20 @@ use std::array;
 pub const EDGES: [u32; 16] = [0, 1, 2, 3, 4, 5, 6, 8, 10, 13, 16, 20, 25, 32, 40, 50];
 
 /// The band of a queue of so many vehicles: the last whose edge is at most that.
+#[tactic(auto, using(crate::proofs::Counts::short_band))]
 pub fn band(length: u32) -> usize
     ensures value { result ≡ band_of length }
     ensures last { LastBand length result }
 {
-    EDGES.partition_point(|edge| *edge <= length) - 1
+    // The first edges are 0 to 6, and most queues are short.
+    if length <= 6 {
+        return length as usize;
+    }
+    EDGES.partition_point(
+        |edge|
+            ensures { result ≡ nat_le edge.now length }
+        { *edge <= length },
+    ) - 1
 }
 
 impl Queues {
@@ -63,7 +72,12 @@ impl Tally for Queues {
     }
 
     fn joined(&self, other: &Queues) -> Queues {
-        Queues::of(array::from_fn(|band| self.counts[band].saturating_add(other.counts[band])))
+        Queues::of(array::from_fn(
+            |band|
+                requires { band < 16 }
+                ensures { result ≡ stop (count_in self.entry.now band + count_in other.entry.now band) }
+            { self.counts[band].saturating_add(other.counts[band]) },
+        ))
     }
 
     fn is_empty(&self) -> bool {

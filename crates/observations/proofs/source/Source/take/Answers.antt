@@ -1,4 +1,4 @@
-use Rattle.std.proofs.Common.{◌∙◌, ap, refl, unwrap_or}
+use Rattle.std.proofs.Common.{◌∙◌, ap, unwrap_or}
 use Rattle.observations.proofs.Reading.{has_rest, read_byte, answered_byte, read_newline, answered_newline}
 use Rattle.observations.proofs.source.Source.take.Goals as goal
 
@@ -14,5 +14,4 @@ returns-then-byte-eq-NEWLINE c = λ text h.
 pub returns : goal.returns
 returns c = λ text h.
     let plain = c.if-byte-eq-NEWLINE.false in
-    let has = has_rest h.rest c.args.self.now.line c.new-2.result _ h.line c.new-2.ensures c.get_or_insert.ensures.value in
-    (read_byte text _ c.args.self.now _ c.take-2.new.self plain h refl refl refl (c.take-2.ensures h.rest has), answered_byte text _ _ plain h)
+    (read_byte text _ _ _ plain h c.add.ensures.rest (λ line. c.add.ensures.line h.rest line h.line), answered_byte text _ _ plain h)
