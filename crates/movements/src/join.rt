@@ -3,19 +3,20 @@ ghost use Rattle.movements.specs.Gathering.{start, with_pair};
 ghost use Rattle.movements.specs.Pairs.{lesser, least, after};
 
 use crate::pair::{PAIRS, Pair};
-use std::cmp::Ordering;
 
 // The pair of the smaller key, with both counts where the keys are equal.
 fn lesser(one: Pair, other: Pair) -> Pair
     ensures { result ≡ lesser one other }
 {
-    match one.key.cmp(&other.key) {
-        Ordering::Less => one,
-        Ordering::Greater => other,
-        Ordering::Equal => Pair {
+    if one.key < other.key {
+        one
+    } else if other.key < one.key {
+        other
+    } else {
+        Pair {
             key: one.key,
             count: one.count.saturating_add(other.count),
-        },
+        }
     }
 }
 
