@@ -1,6 +1,9 @@
 //! Prints an account of a log of frames, one frame in hexadecimal a line.
 #![tactic(auto)]
 
+ghost use Rattle.std.specs.Prelude.{ℕ, List, OnOk};
+ghost use Rattle.framelog.specs.Logs.{Came};
+
 mod account;
 mod conditions;
 mod failure;
@@ -19,11 +22,10 @@ use tally::kind::Tally;
 use tally::queues::Queues;
 use tally::vehicles::Vehicles;
 
-fn read_file<K: Tally + Told>(rt: &HostRuntime, name: &str, scan: &mut Scan) -> io::Result<()> {
-    match fs::open(rt, name) {
-        Ok(mut file) => scan.read_all::<K, _>(rt, name, &mut file),
-        Err(error) => scan.pass_over(rt, name, &error),
-    }
+fn read_file<K: Tally + Told>(rt: &HostRuntime, name: &str, scan: &mut Scan) -> io::Result<()>
+    ensures { OnOk result ((text : List ℕ) × Came K.kind scan.old text scan.new) }
+{
+    scan.read_opened::<K, _>(rt, name, fs::open(rt, name))
 }
 
 // Reads the logs that were asked for, then prints the summary.
@@ -36,11 +38,7 @@ fn print_account<K: Tally + Told>(rt: &HostRuntime, account: &Account) -> Result
         read_file::<K>(rt, name.as_str(), &mut scan)?;
     }
     report::print(rt, &scan.summary)?;
-    if scan.all_read {
-        Ok(())
-    } else {
-        Err(Failure::Unread)
-    }
+    scan.whole()
 }
 
 fn run(rt: &HostRuntime) -> Result<(), Failure> {

@@ -1,10 +1,15 @@
 //! Logs read as streams, line by line.
-ghost use Rattle.std.specs.Prelude.{◌≡◌, true, false};
+ghost use Rattle.std.specs.Prelude.{◌≡◌, ℕ, ◌-◌, ◌^◌, ◌<◌, List, [], ◌∷◌, length, ◌↔◌, true, false, IsTrue, IfSome, IsOk, IfOk, IfErr, OnOk};
 ghost use Rattle.protocol.specs.Refusals.{condition_number};
+ghost use Rattle.frame.specs.View.{viewed};
+ghost use Rattle.frame_logs.specs.Lines.{Holds};
 ghost use Rattle.frame_logs.specs.Summaries.{blank, with_no_hexadecimal, with_refusal};
+ghost use Rattle.framelog.specs.Lines.{with_lawful, with_line};
+ghost use Rattle.framelog.specs.Logs.{ended, open_line, with_lines, Came, CameOf};
 
 use crate::account::{Place, print_frame};
 use crate::conditions::Meaning;
+use crate::failure::Failure;
 use frame::reader::read;
 use frame::received::Received;
 use frame_logs::counts::Clocks;
@@ -82,7 +87,9 @@ impl Scan {
         rt: &HostRuntime,
         place: &Place<'_>,
         frame: &Received<'_>,
-    ) -> io::Result<()> {
+    ) -> io::Result<()>
+        ensures { self.new ≡ record self.old { summary = with_lawful self.old.summary (viewed K.kind frame.now) } }
+    {
         let clocks = Clocks {
             source: frame.source_clock,
             destination: frame.destination_clock,
@@ -102,7 +109,9 @@ impl Scan {
         &mut self,
         rt: &HostRuntime,
         current: &CurrentLine<'_>,
-    ) -> io::Result<()> {
+    ) -> io::Result<()>
+        ensures { (text : List ℕ) → Holds current.now.text text → self.new ≡ record self.old { summary = with_line K.kind self.old.summary text } }
+    {
         match current.text.bytes() {
             Ok([]) => Ok(()),
             Ok(bytes) => match read::<K>(bytes) {
@@ -113,21 +122,38 @@ impl Scan {
         }
     }
 
+    // Takes the next byte of a log: a newline ends the line.
+    fn take_byte<K: Tally + Told>(
+        &mut self,
+        rt: &HostRuntime,
+        byte: u8,
+        current: &mut CurrentLine<'_>,
+    ) -> io::Result<()>
+        ensures scan { OnOk result ((line : List ℕ) → Holds current.old.text line → self.new ≡ record self.old { summary = with_lines K.kind self.old.summary (ended line (byte ∷ [])) }) }
+        ensures line { OnOk result ((line : List ℕ) → Holds current.old.text line → Holds current.new.text (open_line line (byte ∷ []))) }
+    {
+        if byte == b'\n' {
+            self.end_line::<K>(rt, current)?;
+            current.place.line = current.place.line.saturating_add(1);
+            current.text = Line::empty();
+        } else {
+            current.text.take(byte);
+        }
+        Ok(())
+    }
+
     // Accounts for the lines that end in a chunk of a log.
     fn take_chunk<K: Tally + Told>(
         &mut self,
         rt: &HostRuntime,
         chunk: &[u8],
         current: &mut CurrentLine<'_>,
-    ) -> io::Result<()> {
+    ) -> io::Result<()>
+        ensures scan { OnOk result ((line : List ℕ) → Holds current.old.text line → self.new ≡ record self.old { summary = with_lines K.kind self.old.summary (ended line chunk.now) }) }
+        ensures line { OnOk result ((line : List ℕ) → Holds current.old.text line → Holds current.new.text (open_line line chunk.now)) }
+    {
         for byte in chunk {
-            if *byte == b'\n' {
-                self.end_line::<K>(rt, current)?;
-                current.place.line = current.place.line.saturating_add(1);
-                current.text = Line::empty();
-            } else {
-                current.text.take(*byte);
-            }
+            self.take_byte::<K>(rt, *byte, current)?;
         }
         Ok(())
     }
@@ -146,7 +172,10 @@ impl Scan {
         rt: &HostRuntime,
         name: &str,
         log: &mut R,
-    ) -> io::Result<()> {
+    ) -> io::Result<()>
+        ensures some { OnOk result ((text : List ℕ) × Came K.kind self.old text self.new) }
+        ensures known { OnOk result (IfSome (R.remaining log.old) (λ text. length text < 2 ^ 64 - 1 → CameOf K.kind self.old text self.new)) }
+    {
         let mut current = CurrentLine {
             place: Place { name, line: 1 },
             text: Line::empty(),
@@ -161,5 +190,33 @@ impl Scan {
             }
         }
         self.end_line::<K>(rt, &current)
+    }
+
+    /// Reads a log that was opened, or passes over one that could not be.
+    pub fn read_opened<K: Tally + Told, R: Read + Drop>(
+        &mut self,
+        rt: &HostRuntime,
+        name: &str,
+        opened: io::Result<R>,
+    ) -> io::Result<()>
+        ensures some { OnOk result ((text : List ℕ) × Came K.kind self.old text self.new) }
+        ensures known { OnOk result (IfOk opened (λ log. IfSome (R.remaining log) (λ text. length text < 2 ^ 64 - 1 → CameOf K.kind self.old text self.new))) }
+        ensures unopened { IfErr opened (λ _. self.new ≡ record self.old { all_read = false }) }
+    {
+        match opened {
+            Ok(mut log) => self.read_all::<K, _>(rt, name, &mut log),
+            Err(error) => self.pass_over(rt, name, &error),
+        }
+    }
+
+    /// Whether every log was read to its end.
+    pub fn whole(&self) -> Result<(), Failure>
+        ensures { IsOk result ↔ IsTrue self.now.all_read }
+    {
+        if self.all_read {
+            Ok(())
+        } else {
+            Err(Failure::Unread)
+        }
     }
 }
