@@ -122,8 +122,7 @@ impl Scan {
         }
     }
 
-    // Takes the next byte of a log: a newline ends the line. Inlined, as a call for each byte took a third longer.
-    #[inline(always)]
+    // Takes the next byte of a log: a newline ends the line.
     fn take_byte<K: Tally + Told>(
         &mut self,
         rt: &HostRuntime,
